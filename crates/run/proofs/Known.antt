@@ -14,6 +14,7 @@ use Rattle.message.specs.Format.{next}
 use Rattle.message.proofs.Trips.{before}
 use Rattle.station.specs.declared.broadcast.Content.{Content}
 use Rattle.station.specs.declared.broadcast.Content.the-variants as content
+use Rattle.station.specs.declared.broadcast.Broadcast.{Broadcast}
 use Rattle.run.specs.declared.refusal.Refusal.{Refusal}
 use Rattle.run.specs.Refusals.{of-message}
 use Rattle.run.specs.Incoming.{content-for, head, incoming-for, origin-for, station-unit}

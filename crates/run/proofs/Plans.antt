@@ -20,8 +20,8 @@ use Rattle.run.specs.declared.refusal.Refusal.the-variants as refusal
 use Rattle.run.specs.Numbers.{Numbers, tables-fit}
 use Rattle.run.specs.Refusals.{of-message, the-message}
 use Rattle.run.specs.Incoming.{head, incoming-for}
-use Rattle.table.specs.Messages.{understood}
-use Rattle.table.specs.Messages.{size}
+use Rattle.table.specs.Messages.{size, understood}
+use Rattle.station.specs.declared.broadcast.Broadcast.{Broadcast}
 use Rattle.run.specs.Deliver.{admitted, after-consulting, consult-planned, named, planned, planned-for, record-sound, station-at, tried}
 
 module _ {V : Type 0} (run : Numbers) (ss : List (Station V)) (m : Message V) where

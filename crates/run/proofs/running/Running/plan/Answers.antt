@@ -11,7 +11,6 @@ use Rattle.std.proofs.shelf.Ways.{tells}
 use Rattle.run.specs.Deliver.{planned}
 use Rattle.run.specs.Numbers.{numbers, tables-fit}
 use Rattle.table.specs.Messages.{size}
-use Rattle.run.proofs.Known.{of-message-ok}
 use Rattle.run.proofs.Possible.{tables-true}
 use Rattle.run.proofs.Within.{understood-ranges}
 use Rattle.run.proofs.running.Running.plan.Needs as need
@@ -42,7 +41,7 @@ returns-in-Break-m g c =
 pub plan-for-requires : need.plan-for-requires
 plan-for-requires g c κs =
     let t = tables-true (g .V·Value .wide) (numbers (c .args .self .now)) _ _ (sym (c .if-not-has-tables .ensures tt)) in
-    (t .0, (omega arith, understood-ranges (g .V·Value) _ (c .in-Continue-m .m) (of-message-ok _ (c .in-Continue-m .m) (sym (c .read-place .ensures) ∙ c .in-Continue-m .was tt))))
+    (t .0, (omega arith, understood-ranges (g .V·Value) _ (c .in-Continue-m .m) (sym (c .read-place .ensures) ∙ c .in-Continue-m .was tt)))
 
 pub returns : need.returns
 unfolding planned
