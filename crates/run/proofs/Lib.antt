@@ -1,7 +1,8 @@
 pub mod Within
-pub mod Limits
+pub mod Counts
 pub mod Posts
 pub mod Known
 pub mod Possible
 pub mod Plans
 pub mod Crashes
+pub mod Opening

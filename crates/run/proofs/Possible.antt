@@ -110,7 +110,7 @@ module _ {V : Type 0} where
 module _ {V : Type 0} (of : Ghosts V) (run : Numbers) where
   -- what is not refused for its limits can be appended
   module _ (bytes i : ℕ) (few : run .n ≤ 32) (room : run .places * size of ≤ bytes) (to : i < run .n) where
-    postable-by : (q : ℕ) (sent : Option (Broadcast V)) → q ≤ 60000 → Fair (run .n) q sent
+    pub postable-by : (q : ℕ) (sent : Option (Broadcast V)) → q ≤ 60000 → Fair (run .n) q sent
       → (isSome sent && ltb (limit run) (run .sent + run .n)) ≡ false → late sent ≡ false → (isSome sent && ltb (run .places) (run .waiting + run .n)) ≡ false
       → Postable of run bytes i sent
     postable-by q None round fair a b c = tt

@@ -9,7 +9,7 @@ use Rattle.std.specs.declared.option.Option.{Option}
 use Rattle.std.specs.declared.option.Option.the-variants.{Some, None}
 use Rattle.std.specs.declared.result.Result.{Result}
 use Rattle.std.specs.declared.result.Result.the-variants.{Ok, Err}
-use Rattle.station.specs.Rule.{Sound, accepted, adopted, at-stamp, began, consult-rule, content-rule, coordinator, counted-first, counted-second, counted-suspicion, decided, due, enough, in-round-rule, joined-second, preferred, quiet, round-rule, take-rule}
+use Rattle.station.specs.Rule.{Sound, accepted, adopted, at-stamp, began, consult-rule, content-rule, coordinator, counted-first, counted-second, counted-suspicion, decided, due, enough, in-round-rule, joined-second, preferred, quiet, round-rule, started, take-rule}
 use Rattle.station.specs.declared.state.Station.{Station}
 use Rattle.station.specs.declared.state.Phase.{Phase}
 use Rattle.station.specs.declared.state.Phase.the-variants as phase
@@ -109,6 +109,13 @@ module _ {V : Type 0} where
 
     consulted-fair : (b : Bool) → FairStep (s .n) (consult-rule s b)
     consulted-fair b = on (due s b) (λ e. rw e (record { fair = (λ q. q, omega arith, tt) })) (λ e. rw e (record { fair = tt }))
+
+    -- what goes out as round 0 begins
+    pub start-fair : Fair (s .n) (started s .0 .round) (started s .1 .sent)
+    start-fair = began-fair (s .stamp) (s .estimate) 0 .fair
+
+    pub start-round : started s .0 .round ≡ 0
+    start-round = on (eqb (0 % s .n) (s .number)) (λ b. rw b) (λ b. rw b)
 
     pub consult-fair : (b : Bool) → Fair (s .n) (consult-rule s b .0 .round) (consult-rule s b .1 .sent)
     consult-fair b = consulted-fair b .fair

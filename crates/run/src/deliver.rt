@@ -10,14 +10,17 @@ ghost use Rattle.run.specs.Incoming.{Ranges, head};
 ghost use Rattle.run.specs.Numbers.{limit, numbers, tables-fit};
 use super::incoming::head_of;
 use super::incoming::incoming;
+use super::limits::is_late;
 use super::plan::Plan;
 use super::refusal::Refusal;
 use super::refusal::RefusalFromMessageFault;
 use super::refusal::RefusalFromRefused;
 use super::running::Running;
+use super::tables::are_of;
 use detector::FailureDetector;
 use message::Message;
 use station::Broadcast;
+use station::MAX_ROUND;
 use station::Outcome;
 use station::Station;
 use station::Step;
@@ -26,9 +29,6 @@ use table::place_size;
 use table::read_place;
 use table::take_out;
 use value::Value;
-
-const MAX_ROUND: u16 = 60_000;
-const MAX_STAMP: u32 = 6_000_000;
 
 // What a message makes of a station; one that crashed takes nothing.
 fn try_take<V: Value>(s: Station<V>, m: &Broadcast<V>) -> Result<(Station<V>, Step<V>), Refusal>
@@ -54,23 +54,12 @@ fn ask<V: Value, D: FailureDetector>(s: Station<V>, detector: &D, i: usize) -> (
     (next, step)
 }
 
-// Whether a broadcast bears a stamp that is too high.
-fn is_late<V: Value>(sent: &Option<Broadcast<V>>) -> bool
-    ensures { λ r. ⌜ r ≡ late (now (sent .entry)) ⌝ }
-{
-    match sent {
-        Some(b) => b.stamp > MAX_STAMP,
-        None => false,
-    }
-}
-
 impl Running {
     // Whether the tables are those of the opening.
     pub(super) fn has_tables<V: Value>(&self, stations: &[Station<V>], bytes: &[u8]) -> bool
         ensures { λ r. ⌜ r ≡ tables-fit (V·Value .wide) (numbers (now (self .entry))) (length (now (stations .entry))) (length (now (bytes .entry))) ⌝ }
     {
-        let size = 24 + V::width();
-        (stations.len() == usize::from(self.n)) & (bytes.len() / size == usize::from(self.places))
+        are_of(stations, bytes, self.n, self.places)
     }
 
     // Whether the record of station `i`, if there is one, is sound.
@@ -156,7 +145,7 @@ impl Running {
     }
 
     // Appends what a station sends.
-    fn post<V: Value>(&mut self, bytes: &mut [u8], sender: u8, sent: &Option<Broadcast<V>>)
+    pub(super) fn post<V: Value>(&mut self, bytes: &mut [u8], sender: u8, sent: &Option<Broadcast<V>>)
         requires { ⌜ Postable V·Value (numbers (now self)) (length (now bytes)) sender (now sent) ⌝ }
         ensures run { λ _. ⌜ numbers (now (self .exit)) ≡ posted (numbers (now (self .entry))) (now (sent .entry)) ⌝ }
         ensures bytes { λ _. ⌜ now (bytes .exit) ≡ posted-bytes V·Value (now (bytes .entry)) (numbers (now (self .entry))) sender (now (sent .entry)) ⌝ }

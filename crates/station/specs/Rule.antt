@@ -38,11 +38,28 @@ in-first phase.First = true
 in-first phase.Second = false
 
 module _ {V : Type 0} where
-  -- what the run tests of the record of station i among n
-  abbrev pub sound : ℕ → ℕ → Station V → Bool
-  sound n i s =
+  -- what the run tests of the record of station i among n before the start
+  abbrev pub formed : ℕ → ℕ → Station V → Bool
+  formed n i s =
       eqb (s .number) i && eqb (s .n) n && ltb (s .origin) n && leb (s .round) 60000 && leb (s .stamp) 6000000
-        && leb (s .heard) n && leb (s .doubts) n && leb (s .sent) (n * (3 * s .round + 4)) && isSome (s .estimate)
+        && leb (s .heard) n && leb (s .doubts) n && leb (s .sent) (n * (3 * s .round + 4))
+
+  -- and once the run has started: it then has an estimate too
+  abbrev pub sound : ℕ → ℕ → Station V → Bool
+  sound n i s = formed n i s && isSome (s .estimate)
+
+  -- the record of station i among n as the run is opened
+  abbrev pub fresh : ℕ → ℕ → Station V
+  fresh n i = record {
+    number = i; n = n; round = 0; phase = phase.First; estimate = None; origin = i; mark = false;
+    heard = 0; doubts = 0; stamp = 0; sent = 0; decision = None; crashed = false }
+
+  -- a station's proposal is its first estimate
+  abbrev pub proposing : Station V → V → Station V
+  proposing s v = record {
+    number = s .number; n = s .n; round = s .round; phase = s .phase; estimate = Some v;
+    origin = s .origin; mark = s .mark; heard = s .heard; doubts = s .doubts; stamp = s .stamp;
+    sent = s .sent; decision = s .decision; crashed = s .crashed }
 
   abbrev pub coordinator : Station V → ℕ
   coordinator s = s .round % s .n
@@ -151,6 +168,10 @@ module _ {V : Type 0} where
           (sent-all (in-round (holding (at-stamp s t) e (s .origin)) r),
             maybe-sending r (t + 1) (mapped (content.First (s .number)) e) outcome.BeganRound)
           (in-round (holding (at-stamp s t) e (s .origin)) r, quiet outcome.BeganRound)
+
+  -- the record after round 0 has begun, and what is sent then
+  abbrev pub started : Station V → Station V × Step V
+  started s = began s (s .stamp) (s .estimate) 0
 
   unfoldable pub counted-second : Station V → ℕ → ℕ → V → Station V × Step V
   counted-second s t o v =

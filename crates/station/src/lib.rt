@@ -9,6 +9,8 @@ pub use broadcast::Content;
 pub use broadcast::ContentClone;
 pub use state::Phase;
 pub use state::Station;
+pub use step::MAX_ROUND;
+pub use step::MAX_STAMP;
 pub use step::Outcome;
 pub use step::Refused;
 pub use step::Step;

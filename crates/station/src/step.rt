@@ -2,7 +2,7 @@
 ghost use Prim.Native.Nat.{ℕ, _+_, _*_, _<_, _≤_};
 ghost use mathlib.Core.Bool.{true};
 ghost use mathlib.Core.Path.{_≡_};
-ghost use Rattle.station.specs.Rule.{Sound, adopted, began, consult-rule, coordinator, counted-first, counted-second, counted-suspicion, decided, due, enough, joined-second, maybe-sending, preferred, quiet, second-of, sending, sound, take-rule};
+ghost use Rattle.station.specs.Rule.{Sound, adopted, began, consult-rule, coordinator, counted-first, counted-second, counted-suspicion, decided, due, enough, formed, fresh, joined-second, maybe-sending, preferred, proposing, quiet, second-of, sending, sound, started, take-rule};
 use super::broadcast::Broadcast;
 use super::broadcast::BroadcastClone;
 use super::broadcast::Content;
@@ -69,11 +69,39 @@ impl<V: Value> Station<V> {
         (self.round % u16::from(self.n)) as u8
     }
 
-    // Whether the record is one that a run of `n` stations can have left of station `number`.
-    pub fn fits(&self, number: u8, n: u8) -> bool
-        requires { ⌜ 3 ≤ n ⌝ ∗ ⌜ n ≤ 32 ⌝ ∗ ⌜ number < n ⌝ }
-        ensures value { λ r. ⌜ r ≡ sound n number (now (self .entry)) ⌝ }
-        ensures holds { λ r. ⌜ (r ≡ true → Sound (now (self .entry))) ⌝ }
+    // The record of station `number` of `n` as a run is opened.
+    pub fn new(number: u8, n: u8) -> Station<V>
+        ensures { λ r. ⌜ r ≡ fresh n number ⌝ }
+    {
+        Station {
+            number,
+            n,
+            round: 0,
+            phase: Phase::First,
+            estimate: None,
+            origin: number,
+            mark: false,
+            heard: 0,
+            doubts: 0,
+            stamp: 0,
+            sent: 0,
+            decision: None,
+            crashed: false,
+        }
+    }
+
+    // The record with this proposal.
+    pub fn proposing(self, value: V) -> Station<V>
+        ensures { λ r. ⌜ r ≡ proposing self value ⌝ }
+    {
+        let mut next = self;
+        next.estimate = Some(value);
+        next
+    }
+
+    // Whether the record is one that a run of `n` stations can have left of station `number` before the start.
+    pub fn is_formed(&self, number: u8, n: u8) -> bool
+        ensures { λ r. ⌜ r ≡ formed n number (now (self .entry)) ⌝ }
     {
         let sendable = u32::from(n) * (3 * u32::from(self.round) + 4);
         (self.number == number)
@@ -84,7 +112,15 @@ impl<V: Value> Station<V> {
             & (self.heard <= n)
             & (self.doubts <= n)
             & (self.sent <= sendable)
-            & self.estimate.is_some()
+    }
+
+    // Whether the record is one that a run of `n` stations can have left of station `number`.
+    pub fn fits(&self, number: u8, n: u8) -> bool
+        requires { ⌜ 3 ≤ n ⌝ ∗ ⌜ n ≤ 32 ⌝ ∗ ⌜ number < n ⌝ }
+        ensures value { λ r. ⌜ r ≡ sound n number (now (self .entry)) ⌝ }
+        ensures holds { λ r. ⌜ (r ≡ true → Sound (now (self .entry))) ⌝ }
+    {
+        self.is_formed(number, n) & self.estimate.is_some()
     }
 
     // Whether `count` stations are more than half of all.
@@ -252,8 +288,8 @@ impl<V: Value> Station<V> {
     // Begins round 0.
     pub fn begin_first(&mut self) -> Step<V>
         requires { ⌜ Sound (now self) ⌝ }
-        ensures record { λ _. ⌜ now (self .exit) ≡ began (now (self .entry)) (now (self .entry) .stamp) (now (self .entry) .estimate) 0 .0 ⌝ }
-        ensures answer { λ r. ⌜ r ≡ began (now (self .entry)) (now (self .entry) .stamp) (now (self .entry) .estimate) 0 .1 ⌝ }
+        ensures record { λ _. ⌜ now (self .exit) ≡ started (now (self .entry)) .0 ⌝ }
+        ensures answer { λ r. ⌜ r ≡ started (now (self .entry)) .1 ⌝ }
     {
         let stamp = self.stamp;
         let estimate = self.estimate;

@@ -56,19 +56,8 @@ put-put d a b s t h e =
       ∙ paste-all d a (s ++ t) (length s + length t) (sym (length-append s t))
       ∙ ap (λ k. take a d ++ ((s ++ t) ++ drop (a + k) d)) (sym (length-append s t))
 
--- a write of all
-pub put-whole : (d ys : List ℕ) → length ys ≡ length d → put d 0 ys ≡ ys
-put-whole d ys e = ap (λ zs. ys ++ zs) (drop-all (0 + length ys) d (omega (arith, e))) ∙ append-nil ys
-
-pub put-first : (d : List ℕ) (x : ℕ) → 0 < length d → set d 0 x ≡ put d 0 (x ∷ [])
-put-first [] x h = absurd (omega arith)
-put-first (y ∷ ys) x h = refl
-
 pub put-none : (d : List ℕ) (a : ℕ) → d ≡ put d a []
 put-none d a = sym (ap (λ k. take a d ++ drop k d) (omega arith) ∙ take-append-drop a d)
-
-pub length-put : (d : List ℕ) (a : ℕ) (s : List ℕ) → a + length s ≤ length d → length (put d a s) ≡ length d
-length-put d a s h = ap length (put-paste d a s) ∙ length-paste d a s (length s) h (omega arith)
 
 pub length-messages : (f : ℕ → List ℕ) (size n : ℕ) → ((i : ℕ) → length (f i) ≡ size) → length (messages f n) ≡ n * size
 length-messages f size zero e = sym (zero-mul size)

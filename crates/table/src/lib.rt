@@ -10,17 +10,8 @@ pub use places::append;
 pub use places::place_size;
 pub use places::read_place;
 
-// Overwrites the part at `at` by `src`.
-fn overwrite(bytes: &mut [u8], at: usize, src: &[u8])
-    requires { ⌜ at + length (now src) ≤ length (now bytes) ⌝ }
-    ensures { λ _. ⌜ now (bytes .exit) ≡ put (now (bytes .entry)) at (now (src .entry)) ⌝ }
-{
-    let end = at + src.len();
-    bytes[at..end].copy_from_slice(src);
-}
-
 // Sets the part at `at` to 0.
-fn clear(bytes: &mut [u8], at: usize, size: usize)
+pub fn clear(bytes: &mut [u8], at: usize, size: usize)
     requires { ⌜ at + size ≤ length (now bytes) ⌝ }
     ensures { λ _. ⌜ now (bytes .exit) ≡ put (now (bytes .entry)) at (replicate size 0) ⌝ }
 {

@@ -7,7 +7,7 @@ use borrow.Author.Needs.{needs}
 use Rattle.run.specs.Deliver.{Postable}
 use Rattle.run.specs.Numbers.{numbers}
 use Rattle.table.specs.Messages.{size}
-use Rattle.run.proofs.Limits.{limit-small}
+use Rattle.run.proofs.Counts.{limit-small}
 use Rattle.run.proofs.running.Running.post.Needs as need
 
 pub append-requires : need.append-requires
