@@ -11,7 +11,7 @@ use station::Content;
 use value::Value;
 
 // The units that every message has.
-pub fn head_of<V: Value>(m: &Message<V>) -> Head
+pub(super) fn head_of<V: Value>(m: &Message<V>) -> Head
     ensures { λ r. ⌜ r ≡ head (now (m .entry)) ⌝ }
 {
     match m {
@@ -54,7 +54,7 @@ fn content_among<V: Value>(m: &Message<V>, n: u8) -> Result<Content<V>, MessageF
 }
 
 // The message as one of `n` stations takes it.
-pub fn incoming<V: Value>(m: &Message<V>, n: u8) -> Result<Broadcast<V>, MessageFault>
+pub(super) fn incoming<V: Value>(m: &Message<V>, n: u8) -> Result<Broadcast<V>, MessageFault>
     requires { ⌜ head (now m) .round ≤ 60000 ⌝ }
     ensures { λ r. ⌜ r ≡ incoming-for n (now (m .entry)) ⌝ }
 {

@@ -1,6 +1,7 @@
 // A run over the tables of its caller.
 mod close;
 mod closed;
+mod consult;
 mod crash;
 mod deliver;
 mod gather;
@@ -10,6 +11,7 @@ mod limits;
 mod plan;
 mod refusal;
 mod running;
+mod sending;
 mod tables;
 
 pub use closed::Closed;

@@ -124,7 +124,7 @@ impl<V: Value> Station<V> {
     }
 
     // Whether `count` stations are more than half of all.
-    pub fn enough(&self, count: u8) -> bool
+    fn enough(&self, count: u8) -> bool
         requires { ⌜ count ≤ 33 ⌝ }
         ensures { λ r. ⌜ r ≡ enough (now (self .entry)) count ⌝ }
     {
