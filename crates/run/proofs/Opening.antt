@@ -23,7 +23,9 @@ use Rattle.station.specs.declared.broadcast.Broadcast.{Broadcast}
 use Rattle.table.specs.Messages.{size}
 use Rattle.run.specs.declared.refusal.Refusal.{Refusal}
 use Rattle.run.specs.declared.refusal.Refusal.the-variants as refusal
-use Rattle.run.specs.Deliver.{Postable, late, station-at}
+use Rattle.run.specs.Admission.{late}
+use Rattle.run.specs.Posting.{Postable}
+use Rattle.run.specs.Records.{station-at}
 use Rattle.run.specs.Gather.{all-formed, all-proposed, opening, propose-answer, record-formed, start-planned}
 use Rattle.run.specs.Numbers.{Numbers, limit, tables-fit}
 use Rattle.run.proofs.Known.{unrefused}
@@ -62,7 +64,7 @@ opens wide n known stations bytes p e =
       table = eqb-true _ _ (not-false _ (c .0));
       enough = ltb-false _ _ (count .0);
       bounded = ltb-false _ _ (count .1);
-      room = omega (arith, whole)
+      room = omega (arith, whole);
     })
 
 module _ {V : Type 0} where
@@ -144,5 +146,5 @@ module _ {V : Type 0} (of : Ghosts V) (run : Numbers) where
             stations = t .0;
             each = all;
             step = refl;
-            post = postable-by of run bytes 0 many (t .1) (omega arith) (started s .0 .round) (started s .1 .sent) (omega arith) (subst F (h .same) (start-fair s (h .holds))) few-sent (w .0) fits
+            post = postable-by of run bytes 0 many (t .1) (omega arith) (started s .0 .round) (started s .1 .sent) (omega arith) (subst F (h .same) (start-fair s (h .holds))) few-sent (w .0) fits;
           })

@@ -22,7 +22,10 @@ use Rattle.run.specs.Refusals.{of-message, the-message}
 use Rattle.run.specs.Incoming.{head, incoming-for}
 use Rattle.table.specs.Messages.{size, understood}
 use Rattle.station.specs.declared.broadcast.Broadcast.{Broadcast}
-use Rattle.run.specs.Deliver.{admitted, after-consulting, consult-planned, named, planned, planned-for, record-sound, station-at, tried}
+use Rattle.run.specs.Admission.{admitted}
+use Rattle.run.specs.Consult.{after-consulting, consult-planned}
+use Rattle.run.specs.Deliver.{planned, planned-for, tried}
+use Rattle.run.specs.Records.{named, record-sound, station-at}
 
 module _ {V : Type 0} (run : Numbers) (ss : List (Station V)) (m : Message V) where
   pub plan-unsound : record-sound (run .n) ss (head m .receiver) ≡ false → Err refusal.Tables ≡ planned-for run ss m
@@ -59,6 +62,6 @@ module _ {V : Type 0} (of : Ghosts V) (suspects : ℕ → ℕ → Bool) (run : N
     consult-refused y a = rw (e, a)
 
     pub consult-made : admitted run (run .waiting) (after-consulting of suspects i (station-at ss i) .0) (after-consulting of suspects i (station-at ss i) .1) ≡ Ok tt
-      → Ok (record { to = i; station = after-consulting of suspects i (station-at ss i) .0; step = after-consulting of suspects i (station-at ss i) .1 }) ≡ consult-planned of suspects run ss bytes i
+        → Ok (record { to = i; station = after-consulting of suspects i (station-at ss i) .0; step = after-consulting of suspects i (station-at ss i) .1 }) ≡ consult-planned of suspects run ss bytes i
     unfolding consult-planned
     consult-made a = rw (e, a)

@@ -39,7 +39,11 @@ use Rattle.run.specs.Refusals.{of-message, of-step}
 use Rattle.run.specs.Incoming.{Ranges, head, incoming-for}
 use Rattle.table.specs.Messages.{understood}
 use Rattle.table.specs.Messages.{addressed, head-from, message-with, size}
-use Rattle.run.specs.Deliver.{Postable, admitted, after-consulting, consult-planned, emptied, late, named, paired, planned, planned-for, record-sound, station-at, tried}
+use Rattle.run.specs.Admission.{admitted, late}
+use Rattle.run.specs.Consult.{after-consulting, consult-planned}
+use Rattle.run.specs.Deliver.{emptied, paired, planned, planned-for, tried}
+use Rattle.run.specs.Posting.{Postable}
+use Rattle.run.specs.Records.{named, record-sound, station-at}
 use Rattle.run.proofs.Posts.{Fair, FairAnswer, Origin, consult-fair, take-fair}
 use Rattle.run.proofs.Known.{incoming-known, of-message-ok, unrefused}
 use Rattle.run.proofs.Within.{understood-ranges}
@@ -111,8 +115,8 @@ module _ {V : Type 0} (of : Ghosts V) (run : Numbers) where
   -- what is not refused for its limits can be appended
   module _ (bytes i : ℕ) (few : run .n ≤ 32) (room : run .places * size of ≤ bytes) (to : i < run .n) where
     pub postable-by : (q : ℕ) (sent : Option (Broadcast V)) → q ≤ 60000 → Fair (run .n) q sent
-      → (isSome sent && ltb (limit run) (run .sent + run .n)) ≡ false → late sent ≡ false → (isSome sent && ltb (run .places) (run .waiting + run .n)) ≡ false
-      → Postable of run bytes i sent
+        → (isSome sent && ltb (limit run) (run .sent + run .n)) ≡ false → late sent ≡ false → (isSome sent && ltb (run .places) (run .waiting + run .n)) ≡ false
+        → Postable of run bytes i sent
     postable-by q None round fair a b c = tt
     postable-by q (Some x) round fair a b c =
         let limited : run .sent + run .n ≤ limit run = ltb-false _ _ a in
@@ -155,7 +159,7 @@ module _ {V : Type 0} (of : Ghosts V) (run : Numbers) where
         let fair = tried-fair (station-at ss (head m .receiver)) (a .0) (b .0) (h .0) (omega (arith, k .round, rs .round)) (subst O (sym (h .1)) (k .origin)) (b .1) in
         let F : ℕ → Type 0 = λ n. Fair n (b .0 .0 .round) (b .0 .1 .sent) in
         subst (Possible ss bytes) same
-          (record { to = k .receiver; post = postable of (emptied run) bytes (head m .receiver) most room (k .receiver) (b .0 .0) (b .0 .1) (subst F (h .1) fair) (sym (admitted-emptied (b .0 .0) (b .0 .1)) ∙ c .1) })
+        (record { to = k .receiver; post = postable of (emptied run) bytes (head m .receiver) most room (k .receiver) (b .0 .0) (b .0 .1) (subst F (h .1) fair) (sym (admitted-emptied (b .0 .0) (b .0 .1)) ∙ c .1) })
 
     -- the tables and the place, and then what a delivery may count on
     pub record Ready (ss : List (Station V)) (bytes : List ℕ) (k : ℕ) (p : Plan V) : Type 0 where
@@ -213,4 +217,4 @@ module _ {V : Type 0} (of : Ghosts V) (run : Numbers) (few : 3 ≤ run .n) (most
       let same : got ≡ p = cc in
       let F : ℕ → Type 0 = λ n. Fair n (c .0 .round) (c .1 .sent) in
       subst (Consults ss bytes i) same
-        (record { named = h; to = refl; post = postable of run bytes i most (h .within) (h .below) (c .0) (c .1) (subst F (h .same) (consult-fair s (h .holds) (suspects i (coordinator s)))) (b .1) })
+      (record { named = h; to = refl; post = postable of run bytes i most (h .within) (h .below) (c .0) (c .1) (subst F (h .same) (consult-fair s (h .holds) (suspects i (coordinator s)))) (b .1) })

@@ -57,8 +57,8 @@ module _ {V : Type 0} where
     began-fair : (t : ℕ) (e : Option V) (r : ℕ) → FairStep (s .n) (began s t e r)
     began-fair t e r =
         on (eqb (r % s .n) (s .number))
-          (λ b. rw b (record { fair = maybe-fair (s .n) r r (t + 1) (content.First (s .number)) e (λ h. h) (omega arith) (λ v. sound .number) }))
-          (λ b. rw b (record { fair = tt }))
+        (λ b. rw b (record { fair = maybe-fair (s .n) r r (t + 1) (content.First (s .number)) e (λ h. h) (omega arith) (λ v. sound .number) }))
+        (λ b. rw b (record { fair = tt }))
 
     adopted-fair : (t o : ℕ) (v : V) → o < s .n → FairStep (s .n) (adopted s t o v)
     adopted-fair t o v h = on (eqb (coordinator s) (s .number)) (λ b. rw b (record { fair = tt })) (λ b. rw b (record { fair = (λ q. q, omega arith, h) }))
@@ -66,14 +66,14 @@ module _ {V : Type 0} where
     first-fair : (t : ℕ) → FairStep (s .n) (counted-first s t)
     first-fair t =
         on (enough s (s .heard + 1))
-          (λ b. rw b (record { fair = maybe-fair (s .n) (s .round) (s .round) (t + 1) content.Decision (s .estimate) (λ h. h) (omega arith) (λ v. tt) }))
-          (λ b. rw b (record { fair = tt }))
+        (λ b. rw b (record { fair = maybe-fair (s .n) (s .round) (s .round) (t + 1) content.Decision (s .estimate) (λ h. h) (omega arith) (λ v. tt) }))
+        (λ b. rw b (record { fair = tt }))
 
     suspicion-fair : (t : ℕ) → FairStep (s .n) (counted-suspicion s t)
     suspicion-fair t =
         on (enough s (s .doubts + 1))
-          (λ b. rw b (record { fair = maybe-fair (s .n) (s .round) (s .round) (t + 1) (content.Second (s .origin)) (s .estimate) (λ h. h) (omega arith) (λ v. sound .origin) }))
-          (λ b. rw b (record { fair = tt }))
+        (λ b. rw b (record { fair = maybe-fair (s .n) (s .round) (s .round) (t + 1) (content.Second (s .origin)) (s .estimate) (λ h. h) (omega arith) (λ v. sound .origin) }))
+        (λ b. rw b (record { fair = tt }))
 
     joined-fair : (t o : ℕ) (v : V) → FairStep (s .n) (joined-second s t o v)
     joined-fair t o v = record { fair = maybe-fair (s .n) (s .round) (s .round) (t + 1) (content.Second (s .origin)) (s .estimate) (λ h. h) (omega arith) (λ v. sound .origin) }
@@ -95,8 +95,8 @@ module _ {V : Type 0} where
     round-fair : (m : Broadcast V) → Origin (s .n) (m .content) → FairResult (s .n) (round-rule s m)
     round-fair m h =
         on (ltb (m .round) (s .round))
-          (λ b. rw b (record { fair = tt }))
-          (λ b. rw b (on (ltb (s .round) (m .round)) (λ f. rw f (record { fair = tt })) (λ f. rw f (record { fair = in-round-fair (max (s .stamp) (m .stamp)) (s .phase) (m .content) h .fair }))))
+        (λ b. rw b (record { fair = tt }))
+        (λ b. rw b (on (ltb (s .round) (m .round)) (λ f. rw f (record { fair = tt })) (λ f. rw f (record { fair = in-round-fair (max (s .stamp) (m .stamp)) (s .phase) (m .content) h .fair }))))
 
     content-fair : (m : Broadcast V) (c : Content V) → m .round ≤ 60000 → Origin (s .n) (m .content) → FairResult (s .n) (content-rule s m c)
     content-fair m (content.Decision v) r h = record { fair = (λ _. r, omega arith, tt) }

@@ -15,7 +15,7 @@ use Rattle.message.specs.Format.{next}
 use Rattle.station.specs.declared.state.Station.{Station}
 use Rattle.run.specs.Numbers.{Numbers, tables-fit}
 use Rattle.run.specs.Refusals.{refusing}
-use Rattle.run.specs.Deliver.{named, station-at}
+use Rattle.run.specs.Records.{named, station-at}
 use Rattle.run.specs.declared.refusal.Refusal.{Refusal}
 use Rattle.run.specs.declared.refusal.Refusal.the-variants as refusal
 
@@ -33,9 +33,20 @@ module _ {V : Type 0} where
   -- the record of a station whose part has ended
   abbrev pub ended : Station V → Station V
   ended s = record {
-    number = s .number; n = s .n; round = s .round; phase = s .phase; estimate = s .estimate;
-    origin = s .origin; mark = s .mark; heard = s .heard; doubts = s .doubts; stamp = s .stamp;
-    sent = s .sent; decision = s .decision; crashed = true }
+    number = s .number;
+    n = s .n;
+    round = s .round;
+    phase = s .phase;
+    estimate = s .estimate;
+    origin = s .origin;
+    mark = s .mark;
+    heard = s .heard;
+    doubts = s .doubts;
+    stamp = s .stamp;
+    sent = s .sent;
+    decision = s .decision;
+    crashed = true;
+  }
 
   abbrev pub crashes : List (Station V) → ℕ
   crashes stations = countBy (λ s. s .crashed) stations

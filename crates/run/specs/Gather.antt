@@ -14,7 +14,9 @@ use Rattle.station.specs.declared.state.Station.{Station}
 use Rattle.station.specs.declared.step.Step.{Step}
 use Rattle.table.specs.Messages.{size}
 use Rattle.table.specs.Places.{put}
-use Rattle.run.specs.Deliver.{late, posted, posted-bytes, station-at}
+use Rattle.run.specs.Admission.{late}
+use Rattle.run.specs.Posting.{posted, posted-bytes}
+use Rattle.run.specs.Records.{station-at}
 use Rattle.run.specs.Numbers.{Numbers, gathered, numbers, tables-fit}
 use Rattle.run.specs.Refusals.{refusing}
 use Rattle.run.specs.declared.gathering.Gathering.{Gathering}
@@ -25,11 +27,11 @@ use Rattle.run.specs.declared.refusal.Refusal.the-variants as refusal
 -- the stations and places of a run that is opened with n, by a detector of so many stations, over so many stations and bytes
 abbrev pub opening : ℕ → ℕ → ℕ → ℕ → ℕ → Result (ℕ × ℕ) Refusal
 opening wide n known stations bytes = refusing
-  ((ltb n 3 || ltb 32 n, refusal.Stations) ∷
-   (not (eqb known n), refusal.Stations) ∷
-   (not (eqb stations n), refusal.Tables) ∷
-   (ltb (bytes / (24 + wide)) n || ltb 4096 (bytes / (24 + wide)), refusal.Tables) ∷ [])
-  (Ok (n, bytes / (24 + wide)))
+    ((ltb n 3 || ltb 32 n, refusal.Stations) ∷
+    (not (eqb known n), refusal.Stations) ∷
+    (not (eqb stations n), refusal.Tables) ∷
+    (ltb (bytes / (24 + wide)) n || ltb 4096 (bytes / (24 + wide)), refusal.Tables) ∷ [])
+    (Ok (n, bytes / (24 + wide)))
 
 -- the stations and places of an opened run
 abbrev pub opened : Result Gathering Refusal → Result (ℕ × ℕ) Refusal
@@ -73,20 +75,20 @@ module _ {V : Type 0} (of : Ghosts V) where
   -- whether station i may propose
   unfoldable pub propose-answer : Numbers → List (Station V) → ℕ → ℕ → Result (Unit {0}) Refusal
   propose-answer run stations bytes i = refusing
-    ((not (tables-fit (of .wide) run (length stations) bytes), refusal.Tables) ∷
-     (not (record-formed (run .n) stations i), refusal.Tables) ∷
-     (leb (run .n) i, refusal.Unknown) ∷
-     (isSome (station-at stations i .estimate), refusal.Repeated) ∷ [])
-    (Ok tt)
+      ((not (tables-fit (of .wide) run (length stations) bytes), refusal.Tables) ∷
+      (not (record-formed (run .n) stations i), refusal.Tables) ∷
+      (leb (run .n) i, refusal.Unknown) ∷
+      (isSome (station-at stations i .estimate), refusal.Repeated) ∷ [])
+      (Ok tt)
 
   -- what the coordinator of round 0 sends, if the run may start
   unfoldable pub start-planned : Numbers → List (Station V) → ℕ → Result (Step V) Refusal
   start-planned run stations bytes = refusing
-    ((not (tables-fit (of .wide) run (length stations) bytes), refusal.Tables) ∷
-     (not (all-formed (run .n) 0 stations), refusal.Tables) ∷
-     (not (all-proposed stations), refusal.Missing) ∷
-     (late (started (station-at stations 0) .1 .sent), refusal.Stamp) ∷ [])
-    (Ok (started (station-at stations 0) .1))
+      ((not (tables-fit (of .wide) run (length stations) bytes), refusal.Tables) ∷
+      (not (all-formed (run .n) 0 stations), refusal.Tables) ∷
+      (not (all-proposed stations), refusal.Missing) ∷
+      (late (started (station-at stations 0) .1 .sent), refusal.Stamp) ∷ [])
+      (Ok (started (station-at stations 0) .1))
 
   abbrev pub start-finished : Numbers → Result (Step V) Refusal → Numbers × Result (Unit {0}) Refusal
   start-finished run (Ok step) = (posted run (step .sent), Ok tt)

@@ -16,7 +16,20 @@ impl Running {
     pub fn close(self) -> Closed
         ensures { λ r. ⌜ r ≡ closed self ⌝ }
     {
-        let Running { n, places: _, waiting, sent, delivered, lost } = self;
-        Closed { n, sent, waiting, delivered, lost }
+        let Running {
+            n,
+            places: _,
+            waiting,
+            sent,
+            delivered,
+            lost,
+        } = self;
+        Closed {
+            n,
+            sent,
+            waiting,
+            delivered,
+            lost,
+        }
     }
 }

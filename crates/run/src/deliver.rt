@@ -4,7 +4,8 @@ ghost use lib.ListN.{length};
 ghost use mathlib.Core.Path.{_≡_};
 ghost use Rattle.table.specs.Places.{taken-out};
 ghost use Rattle.station.specs.Rule.{Sound};
-ghost use Rattle.run.specs.Deliver.{after, delivered, emptied, planned, planned-for, tried};
+ghost use Rattle.run.specs.After.{after};
+ghost use Rattle.run.specs.Deliver.{delivered, emptied, planned, planned-for, tried};
 ghost use Rattle.run.specs.Incoming.{Ranges, head};
 ghost use Rattle.run.specs.Numbers.{numbers};
 use super::incoming::head_of;
@@ -31,7 +32,13 @@ fn try_take<V: Value>(s: Station<V>, m: &Broadcast<V>) -> Result<(Station<V>, St
     ensures { λ r. ⌜ r ≡ tried s (now (m .entry)) ⌝ }
 {
     if s.crashed {
-        return Ok((s, Step { sent: None, outcome: Outcome::Nothing }));
+        return Ok((
+            s,
+            Step {
+                sent: None,
+                outcome: Outcome::Nothing,
+            },
+        ));
     }
     let mut next = s;
     let step = next.take(m)?;
@@ -40,7 +47,11 @@ fn try_take<V: Value>(s: Station<V>, m: &Broadcast<V>) -> Result<(Station<V>, St
 
 impl Running {
     // What the delivery of a message comes to; nothing is changed.
-    fn plan_for<V: Value>(&self, stations: &[Station<V>], m: &Message<V>) -> Result<Plan<V>, Refusal>
+    fn plan_for<V: Value>(
+        &self,
+        stations: &[Station<V>],
+        m: &Message<V>,
+    ) -> Result<Plan<V>, Refusal>
         requires { ⌜ length (now stations) ≡ now self .n ⌝ ∗ ⌜ 0 < now self .waiting ⌝ ∗ ⌜ Ranges (head (now m)) ⌝ }
         ensures { λ r. ⌜ r ≡ planned-for (numbers (now (self .entry))) (now (stations .entry)) (now (m .entry)) ⌝ }
     {
@@ -56,7 +67,12 @@ impl Running {
     }
 
     // What the delivery from place `k` comes to; nothing is changed.
-    fn plan<V: Value>(&self, stations: &[Station<V>], bytes: &[u8], k: usize) -> Result<Plan<V>, Refusal>
+    fn plan<V: Value>(
+        &self,
+        stations: &[Station<V>],
+        bytes: &[u8],
+        k: usize,
+    ) -> Result<Plan<V>, Refusal>
         ensures { λ r. ⌜ r ≡ planned V·Value (numbers (now (self .entry))) (now (stations .entry)) (now (bytes .entry)) k ⌝ }
     {
         if !self.has_tables(stations, bytes) {
@@ -81,7 +97,13 @@ impl Running {
     }
 
     // Takes the message at place `k` out, and hands it to its receiver. A refusal leaves all as it was.
-    pub fn deliver<V: Value, D: FailureDetector>(&mut self, stations: &mut [Station<V>], bytes: &mut [u8], detector: &D, k: usize) -> Result<Outcome, Refusal>
+    pub fn deliver<V: Value, D: FailureDetector>(
+        &mut self,
+        stations: &mut [Station<V>],
+        bytes: &mut [u8],
+        detector: &D,
+        k: usize,
+    ) -> Result<Outcome, Refusal>
         ensures { λ r. ⌜ after (numbers (now (self .exit))) (now (stations .exit)) (now (bytes .exit)) r ≡ delivered V·Value (numbers (now (self .entry))) (now (stations .entry)) (now (bytes .entry)) k ⌝ }
     {
         let Plan { to, station, step } = self.plan(stations, bytes, k)?;

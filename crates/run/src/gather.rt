@@ -4,7 +4,7 @@ ghost use lib.ListN.{length};
 ghost use mathlib.Core.Path.{_≡_};
 ghost use Rattle.std.specs.Results.{Cases};
 ghost use Rattle.station.specs.Rule.{Sound, started};
-ghost use Rattle.run.specs.Deliver.{station-at};
+ghost use Rattle.run.specs.Records.{station-at};
 ghost use Rattle.run.specs.Gather.{Begun, Reset, all-formed, all-proposed, after-proposal, after-start, cleared, handed, opened, opening, propose-answer, record-formed, start-planned, start-result};
 ghost use Rattle.run.specs.Numbers.{gathered};
 use super::gathering::Gathering;
@@ -20,7 +20,12 @@ use table::place_size;
 use value::Value;
 
 // The number of stations and of places of a run that may be opened.
-fn check_opening<V: Value>(n: usize, known: usize, stations: usize, bytes: usize) -> Result<(u8, u16), Refusal>
+fn check_opening<V: Value>(
+    n: usize,
+    known: usize,
+    stations: usize,
+    bytes: usize,
+) -> Result<(u8, u16), Refusal>
     ensures { λ r. ⌜ r ≡ opening (V·Value .wide) n known stations bytes ⌝ }
 {
     if n < 3 || n > 32 {
@@ -108,7 +113,12 @@ fn begin_all<V: Value>(stations: &mut [Station<V>])
 
 impl Gathering {
     // Opens a run over the tables of the caller. A refusal leaves them as they were.
-    pub fn open<V: Value, D: FailureDetector>(n: usize, stations: &mut [Station<V>], bytes: &mut [u8], detector: &D) -> Result<Gathering, Refusal>
+    pub fn open<V: Value, D: FailureDetector>(
+        n: usize,
+        stations: &mut [Station<V>],
+        bytes: &mut [u8],
+        detector: &D,
+    ) -> Result<Gathering, Refusal>
         ensures answer { λ r. ⌜ opened r ≡ opening (V·Value .wide) n (D·FailureDetector .stations (now (detector .entry))) (length (now (stations .entry))) (length (now (bytes .entry))) ⌝ }
         ensures stations { λ r. ⌜ Cases r (λ g. Reset (g .n) (now (stations .exit))) (λ _. now (stations .exit) ≡ now (stations .entry)) ⌝ }
         ensures bytes { λ r. ⌜ now (bytes .exit) ≡ cleared V·Value r (now (bytes .entry)) ⌝ }
@@ -132,7 +142,12 @@ impl Gathering {
     }
 
     // Whether station `i` may propose.
-    fn check_proposal<V: Value>(&self, stations: &[Station<V>], bytes: &[u8], i: usize) -> Result<(), Refusal>
+    fn check_proposal<V: Value>(
+        &self,
+        stations: &[Station<V>],
+        bytes: &[u8],
+        i: usize,
+    ) -> Result<(), Refusal>
         ensures { λ r. ⌜ r ≡ propose-answer V·Value (gathered (now (self .entry))) (now (stations .entry)) (length (now (bytes .entry))) i ⌝ }
     {
         if !are_of(stations, bytes, self.n, self.places) {
@@ -152,7 +167,14 @@ impl Gathering {
     }
 
     // Station `i` proposes a value. A refusal leaves all as it was.
-    pub fn propose<V: Value, D: FailureDetector>(&self, stations: &mut [Station<V>], bytes: &[u8], detector: &D, i: usize, value: V) -> Result<(), Refusal>
+    pub fn propose<V: Value, D: FailureDetector>(
+        &self,
+        stations: &mut [Station<V>],
+        bytes: &[u8],
+        detector: &D,
+        i: usize,
+        value: V,
+    ) -> Result<(), Refusal>
         ensures answer { λ r. ⌜ r ≡ propose-answer V·Value (gathered (now (self .entry))) (now (stations .entry)) (length (now (bytes .entry))) i ⌝ }
         ensures stations { λ r. ⌜ now (stations .exit) ≡ after-proposal (now (stations .entry)) i value r ⌝ }
     {
@@ -163,7 +185,11 @@ impl Gathering {
     }
 
     // What the coordinator of round 0 sends, if the run may start; nothing is changed.
-    fn start_plan<V: Value>(&self, stations: &[Station<V>], bytes: &[u8]) -> Result<Step<V>, Refusal>
+    fn start_plan<V: Value>(
+        &self,
+        stations: &[Station<V>],
+        bytes: &[u8],
+    ) -> Result<Step<V>, Refusal>
         ensures { λ r. ⌜ r ≡ start-planned V·Value (gathered (now (self .entry))) (now (stations .entry)) (length (now (bytes .entry))) ⌝ }
     {
         if !are_of(stations, bytes, self.n, self.places) {
@@ -183,7 +209,12 @@ impl Gathering {
     }
 
     // Begins round 0 at every station. A refusal hands the gathering back, and leaves all as it was.
-    pub fn start<V: Value, D: FailureDetector>(self, stations: &mut [Station<V>], bytes: &mut [u8], detector: &D) -> Result<Running, (Gathering, Refusal)>
+    pub fn start<V: Value, D: FailureDetector>(
+        self,
+        stations: &mut [Station<V>],
+        bytes: &mut [u8],
+        detector: &D,
+    ) -> Result<Running, (Gathering, Refusal)>
         ensures answer { λ r. ⌜ handed r ≡ start-result V·Value (gathered self) (now (stations .entry)) (length (now (bytes .entry))) ⌝ }
         ensures stations { λ r. ⌜ Cases r (λ _. Begun (now (stations .entry)) (now (stations .exit))) (λ _. now (stations .exit) ≡ now (stations .entry)) ⌝ }
         ensures bytes { λ r. ⌜ now (bytes .exit) ≡ after-start V·Value (gathered self) (now (stations .entry)) (now (bytes .entry)) r ⌝ }
@@ -194,7 +225,14 @@ impl Gathering {
         };
         let Gathering { n, places } = self;
         begin_all(stations);
-        let mut running = Running { n, places, waiting: 0, sent: 0, delivered: 0, lost: 0 };
+        let mut running = Running {
+            n,
+            places,
+            waiting: 0,
+            sent: 0,
+            delivered: 0,
+            lost: 0,
+        };
         running.post(bytes, 0, &step.sent);
         Ok(running)
     }

@@ -27,7 +27,10 @@ fn check_station(number: u32, n: u8, place: usize) -> Result<(), MessageFault>
     ensures { λ r. ⌜ r ≡ station-unit n place number ⌝ }
 {
     if number >= u32::from(n) {
-        return Err(MessageFault { reason: Reason::Range, place });
+        return Err(MessageFault {
+            reason: Reason::Range,
+            place,
+        });
     }
     Ok(())
 }
@@ -37,7 +40,10 @@ fn origin_among(origin: u32, n: u8) -> Result<u8, MessageFault>
     ensures { λ r. ⌜ r ≡ origin-for n origin ⌝ }
 {
     if origin >= u32::from(n) {
-        return Err(MessageFault { reason: Reason::Range, place: 20 });
+        return Err(MessageFault {
+            reason: Reason::Range,
+            place: 20,
+        });
     }
     Ok(origin as u8)
 }
@@ -46,8 +52,14 @@ fn content_among<V: Value>(m: &Message<V>, n: u8) -> Result<Content<V>, MessageF
     ensures { λ r. ⌜ r ≡ content-for n (now (m .entry)) ⌝ }
 {
     match m {
-        Message::First(_, origin, value) => Ok(Content::First { origin: origin_among(*origin, n)?, value: *value }),
-        Message::Second(_, origin, value) => Ok(Content::Second { origin: origin_among(*origin, n)?, value: *value }),
+        Message::First(_, origin, value) => Ok(Content::First {
+            origin: origin_among(*origin, n)?,
+            value: *value,
+        }),
+        Message::Second(_, origin, value) => Ok(Content::Second {
+            origin: origin_among(*origin, n)?,
+            value: *value,
+        }),
         Message::Suspicion(_) => Ok(Content::Suspicion),
         Message::Decision(_, value) => Ok(Content::Decision { value: *value }),
     }
@@ -62,5 +74,9 @@ pub(super) fn incoming<V: Value>(m: &Message<V>, n: u8) -> Result<Broadcast<V>, 
     check_station(head.sender, n, 4)?;
     check_station(head.receiver, n, 8)?;
     let content = content_among(m, n)?;
-    Ok(Broadcast { round: head.round as u16, stamp: head.stamp, content })
+    Ok(Broadcast {
+        round: head.round as u16,
+        stamp: head.stamp,
+        content,
+    })
 }

@@ -1,7 +1,7 @@
 // The limits of a run, tested on what a step would leave and send.
 ghost use Prim.Native.Nat.{ℕ, _≤_};
 ghost use mathlib.Core.Path.{_≡_};
-ghost use Rattle.run.specs.Deliver.{admitted, late};
+ghost use Rattle.run.specs.Admission.{admitted, late};
 ghost use Rattle.run.specs.Numbers.{limit, numbers};
 use super::refusal::Refusal;
 use super::running::Running;
@@ -32,7 +32,12 @@ impl Running {
     }
 
     // Whether a step may be made, by what it leaves and sends.
-    pub(super) fn admit<V: Value>(&self, waiting: u16, next: &Station<V>, step: &Step<V>) -> Result<(), Refusal>
+    pub(super) fn admit<V: Value>(
+        &self,
+        waiting: u16,
+        next: &Station<V>,
+        step: &Step<V>,
+    ) -> Result<(), Refusal>
         requires { ⌜ waiting ≤ 4096 ⌝ }
         ensures { λ r. ⌜ r ≡ admitted (numbers (now (self .entry))) waiting (now (next .entry)) (now (step .entry)) ⌝ }
     {

@@ -1,7 +1,7 @@
 // Whether tables are those of a run, and their records sound.
 ghost use lib.ListN.{length};
 ghost use mathlib.Core.Path.{_≡_};
-ghost use Rattle.run.specs.Deliver.{named, record-sound};
+ghost use Rattle.run.specs.Records.{named, record-sound};
 ghost use Rattle.run.specs.Numbers.{fitting, numbers, tables-fit};
 use super::refusal::Refusal;
 use super::running::Running;
@@ -37,7 +37,12 @@ impl Running {
     }
 
     // Whether a call may name station `i`.
-    pub(super) fn check_named<V: Value>(&self, stations: &[Station<V>], bytes: &[u8], i: usize) -> Result<(), Refusal>
+    pub(super) fn check_named<V: Value>(
+        &self,
+        stations: &[Station<V>],
+        bytes: &[u8],
+        i: usize,
+    ) -> Result<(), Refusal>
         ensures { λ r. ⌜ r ≡ named V·Value (numbers (now (self .entry))) (now (stations .entry)) (length (now (bytes .entry))) i ⌝ }
     {
         if !self.has_tables(stations, bytes) {

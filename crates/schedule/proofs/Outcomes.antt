@@ -21,7 +21,11 @@ use Rattle.station.specs.declared.state.Station.{Station}
 use Rattle.station.specs.declared.step.Step.{Step}
 use Rattle.run.specs.Numbers.{Numbers}
 use Rattle.run.specs.Gather.{Begun, after-proposal, propose-answer, start-finished, start-planned, start-result}
-use Rattle.run.specs.Deliver.{After, after, consult-finished, finished, posted-bytes, station-at}
+use Rattle.run.specs.After.{After, after}
+use Rattle.run.specs.Consult.{consult-finished}
+use Rattle.run.specs.Deliver.{finished}
+use Rattle.run.specs.Posting.{posted-bytes}
+use Rattle.run.specs.Records.{station-at}
 use Rattle.run.specs.Crash.{Telling, after-crash, crash-answer, means, pass-answer}
 use Rattle.run.specs.declared.plan.Plan.{Plan}
 use Rattle.run.specs.declared.refusal.Refusal.{Refusal}

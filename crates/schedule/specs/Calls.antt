@@ -16,7 +16,11 @@ use Rattle.station.specs.Rule.{started}
 use Rattle.station.specs.declared.state.Station.{Station}
 use Rattle.run.specs.Numbers.{Numbers}
 use Rattle.run.specs.Gather.{Begun, Reset, after-proposal, opening, propose-answer, start-result}
-use Rattle.run.specs.Deliver.{After, consulted, delivered, posted-bytes, station-at}
+use Rattle.run.specs.After.{After}
+use Rattle.run.specs.Consult.{consulted}
+use Rattle.run.specs.Deliver.{delivered}
+use Rattle.run.specs.Posting.{posted-bytes}
+use Rattle.run.specs.Records.{station-at}
 use Rattle.run.specs.Crash.{Telling, after-crash, crash-answer, means, pass-answer}
 use Rattle.run.specs.declared.refusal.Refusal.{Refusal}
 use Rattle.schedule.specs.declared.refusal.LineRefusal.{LineRefusal}

@@ -3,7 +3,7 @@ ghost use mathlib.Core.Path.{_≡_};
 ghost use Rattle.std.specs.Of.Vec.{vec-items, vec-len};
 ghost use Rattle.std.specs.Vec.{made};
 ghost use Rattle.schedule.specs.Tables.{Blank};
-use detector::patient::PatientDetector;
+use detector::PatientDetector;
 use station::Station;
 use std::alloc::AllocError;
 use std::alloc::Global;

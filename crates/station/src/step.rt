@@ -14,6 +14,7 @@ use value::Value;
 
 // The last round, and the highest stamp, that a record may have.
 pub const MAX_ROUND: u16 = 60_000;
+
 pub const MAX_STAMP: u32 = 6_000_000;
 
 #[derive(Clone, Copy)]
@@ -40,21 +41,37 @@ impl<V: Value> Step<V> {
     fn quiet(outcome: Outcome) -> Step<V>
         ensures { λ r. ⌜ r ≡ quiet outcome ⌝ }
     {
-        Step { sent: None, outcome }
+        Step {
+            sent: None,
+            outcome,
+        }
     }
 
     fn sending(round: u16, stamp: u32, content: Content<V>, outcome: Outcome) -> Step<V>
         ensures { λ r. ⌜ r ≡ sending round stamp content outcome ⌝ }
     {
-        let sent = Some(Broadcast { round, stamp, content });
+        let sent = Some(Broadcast {
+            round,
+            stamp,
+            content,
+        });
         Step { sent, outcome }
     }
 
-    fn maybe_sending(round: u16, stamp: u32, content: Option<Content<V>>, outcome: Outcome) -> Step<V>
+    fn maybe_sending(
+        round: u16,
+        stamp: u32,
+        content: Option<Content<V>>,
+        outcome: Outcome,
+    ) -> Step<V>
         ensures { λ r. ⌜ r ≡ maybe-sending round stamp content outcome ⌝ }
     {
         let sent = match content {
-            Some(content) => Some(Broadcast { round, stamp, content }),
+            Some(content) => Some(Broadcast {
+                round,
+                stamp,
+                content,
+            }),
             None => None,
         };
         Step { sent, outcome }
@@ -149,7 +166,12 @@ impl<V: Value> Station<V> {
         self.stamp = stamp;
         self.decision = Some(value);
         self.sent = sent;
-        Step::sending(round, stamp + 1, Content::Decision { value }, Outcome::Decided)
+        Step::sending(
+            round,
+            stamp + 1,
+            Content::Decision { value },
+            Outcome::Decided,
+        )
     }
 
     // The first estimate of this round: it is taken over, and passed on unless this is the coordinator.
@@ -168,7 +190,12 @@ impl<V: Value> Station<V> {
             return Step::quiet(Outcome::Counted);
         }
         self.sent = sent;
-        Step::sending(self.round, stamp + 1, Content::First { origin, value }, Outcome::Counted)
+        Step::sending(
+            self.round,
+            stamp + 1,
+            Content::First { origin, value },
+            Outcome::Counted,
+        )
     }
 
     // A further first estimate: with enough of them the station decides its own.
@@ -279,7 +306,10 @@ impl<V: Value> Station<V> {
         }
         self.sent = sent;
         let content = match estimate {
-            Some(value) => Some(Content::First { origin: number, value }),
+            Some(value) => Some(Content::First {
+                origin: number,
+                value,
+            }),
             None => None,
         };
         Step::maybe_sending(round, stamp + 1, content, Outcome::BeganRound)
@@ -326,7 +356,12 @@ impl<V: Value> Station<V> {
         let sent = self.sent_then();
         self.mark = true;
         self.sent = sent;
-        Step::sending(self.round, self.stamp + 1, Content::Suspicion, Outcome::Counted)
+        Step::sending(
+            self.round,
+            self.stamp + 1,
+            Content::Suspicion,
+            Outcome::Counted,
+        )
     }
 
     // Whether the station is to say that it suspects its coordinator, if it does.
@@ -346,16 +381,28 @@ impl<V: Value> Station<V> {
         ensures answer { λ r. ⌜ r ≡ take-rule (now (self .entry)) (now (m .entry)) .1 ⌝ }
     {
         let stamp = self.stamp.max(m.stamp);
-        match (self.decision.is_some(), self.phase, m.round.cmp(&self.round), m.content) {
+        match (
+            self.decision.is_some(),
+            self.phase,
+            m.round.cmp(&self.round),
+            m.content,
+        ) {
             (true, _, _, _) => Ok(Step::quiet(Outcome::Nothing)),
             (false, _, _, Content::Decision { value }) => Ok(self.decide(stamp, value, m.round)),
             (false, _, Ordering::Less, _) => Ok(Step::quiet(Outcome::Nothing)),
             (false, _, Ordering::Greater, _) => Err(Refused::Early),
-            (false, Phase::First, Ordering::Equal, Content::First { origin, value }) if self.heard == 0 => Ok(self.adopt_first(stamp, origin, value)),
-            (false, Phase::First, Ordering::Equal, Content::First { .. }) => Ok(self.count_first(stamp)),
-            (false, Phase::First, Ordering::Equal, Content::Suspicion) => Ok(self.count_suspicion(stamp)),
-            (false, Phase::First, Ordering::Equal, Content::Second { origin, value }) => Ok(self.join_second(stamp, origin, value)),
-            (false, Phase::Second, Ordering::Equal, Content::Second { origin, value }) => Ok(self.count_second(stamp, origin, value)),
+            (false, Phase::First, Ordering::Equal, Content::First { origin, value })
+                if self.heard == 0 => Ok(self.adopt_first(stamp, origin, value)),
+            (false, Phase::First, Ordering::Equal, Content::First { .. }) => Ok(self.count_first(
+                stamp,
+            )),
+            (false, Phase::First, Ordering::Equal, Content::Suspicion) => Ok(self.count_suspicion(
+                stamp,
+            )),
+            (false, Phase::First, Ordering::Equal, Content::Second { origin, value }) =>
+                Ok(self.join_second(stamp, origin, value)),
+            (false, Phase::Second, Ordering::Equal, Content::Second { origin, value }) =>
+                Ok(self.count_second(stamp, origin, value)),
             (false, Phase::Second, Ordering::Equal, _) => Ok(Step::quiet(Outcome::Nothing)),
         }
     }

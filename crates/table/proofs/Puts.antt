@@ -28,8 +28,8 @@ module _ (d : List ℕ) (from to size : ℕ) (below : to ≤ from) (fits : from 
       let past : drop (to + i) (paste d to s i) ≡ drop (to + i) d = drop-paste d to s i (omega arith) (omega arith) in
       let e : (to + i) + (from - to) ≡ from + i = omega arith in
       let l : getD (paste d to s i) (from + i) 0 ≡ getD d (from + i) 0 =
-        ap (λ k. getD (paste d to s i) k 0) (sym e) ∙ sym (getD-drop (to + i) (paste d to s i) (from - to) 0)
-          ∙ ap (λ ys. getD ys (from - to) 0) past ∙ getD-drop (to + i) d (from - to) 0 ∙ ap (λ k. getD d k 0) e in
+      ap (λ k. getD (paste d to s i) k 0) (sym e) ∙ sym (getD-drop (to + i) (paste d to s i) (from - to) 0)
+      ∙ ap (λ ys. getD ys (from - to) 0) past ∙ getD-drop (to + i) d (from - to) 0 ∙ ap (λ k. getD d k 0) e in
       l ∙ sym (getD-take size (drop from d) i 0 h ∙ getD-drop from d i 0)
 
   pub copy-more : (i : ℕ) → i < size → set (paste d to (place d from size) i) (to + i) (getD (paste d to (place d from size) i) (from + i) 0) ≡ paste d to (place d from size) (i + 1)
@@ -39,7 +39,7 @@ module _ (d : List ℕ) (from to size : ℕ) (below : to ≤ from) (fits : from 
       ap (λ v. set (paste d to s i) (to + i) v) (read i h) ∙ paste-more d to s i 0 (omega arith) (omega arith)
 
   pub copy-all : paste d to (place d from size) size ≡ put d to (place d from size)
-  copy-all = 
+  copy-all =
       let n = length-place in
       paste-all d to (place d from size) size (sym n) ∙ ap (λ k. take to d ++ (place d from size ++ drop (to + k) d)) (sym n)
 
@@ -50,11 +50,11 @@ put-paste d a s = sym (paste-all d a s (length s) refl)
 pub put-put : (d : List ℕ) (a b : ℕ) (s t : List ℕ) → a ≤ length d → b ≡ a + length s → put (put d a s) b t ≡ put d a (s ++ t)
 put-put d a b s t h e =
     ap (λ k. put (put d a s) k t) e
-      ∙ ap (λ xs. put xs (a + length s) t) (put-paste d a s)
-      ∙ put-paste (paste d a s (length s)) (a + length s) t
-      ∙ paste-paste d a s t (length s) (length t) refl refl h
-      ∙ paste-all d a (s ++ t) (length s + length t) (sym (length-append s t))
-      ∙ ap (λ k. take a d ++ ((s ++ t) ++ drop (a + k) d)) (sym (length-append s t))
+    ∙ ap (λ xs. put xs (a + length s) t) (put-paste d a s)
+    ∙ put-paste (paste d a s (length s)) (a + length s) t
+    ∙ paste-paste d a s t (length s) (length t) refl refl h
+    ∙ paste-all d a (s ++ t) (length s + length t) (sym (length-append s t))
+    ∙ ap (λ k. take a d ++ ((s ++ t) ++ drop (a + k) d)) (sym (length-append s t))
 
 pub put-none : (d : List ℕ) (a : ℕ) → d ≡ put d a []
 put-none d a = sym (ap (λ k. take a d ++ drop k d) (omega arith) ∙ take-append-drop a d)

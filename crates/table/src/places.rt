@@ -28,7 +28,10 @@ fn read_part<V: Value>(part: &[u8]) -> Result<Message<V>, MessageFault>
     let m = message::read::<V>(part)?;
     match message::open::<V>(m) {
         Ok(m) => Ok(m),
-        Err(fault) => Err(MessageFault { reason: Reason::Value(fault), place: 0 }),
+        Err(fault) => Err(MessageFault {
+            reason: Reason::Value(fault),
+            place: 0,
+        }),
     }
 }
 
@@ -46,7 +49,12 @@ pub fn read_place<V: Value>(bytes: &[u8], k: usize) -> Result<Message<V>, Messag
 fn address<V: Value>(b: &Broadcast<V>, sender: u8, receiver: u8) -> Message<V>
     ensures { λ r. ⌜ r ≡ addressed sender (now (b .entry)) receiver ⌝ }
 {
-    let head = Head { sender: u32::from(sender), receiver: u32::from(receiver), round: u32::from(b.round), stamp: b.stamp };
+    let head = Head {
+        sender: u32::from(sender),
+        receiver: u32::from(receiver),
+        round: u32::from(b.round),
+        stamp: b.stamp,
+    };
     match b.content {
         Content::First { origin, value } => Message::First(head, u32::from(origin), value),
         Content::Second { origin, value } => Message::Second(head, u32::from(origin), value),

@@ -3,7 +3,7 @@ use mathlib.Core.Path.{_∙_}
 use lib.Seq.{getD-set-same, getD-set-other}
 use native.Mathlib.Omega.{arith}
 use borrow.Author.Count.{below-more}
-use Rattle.run.specs.Deliver.{blank}
+use Rattle.run.specs.Records.{blank}
 use Rattle.run.proofs.gather.reset.Needs as need
 
 pub loop-i-again : need.loop-i-again

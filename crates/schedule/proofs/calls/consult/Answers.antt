@@ -4,7 +4,7 @@ use borrow.Author.Needs.{needs}
 use Rattle.value.specs.contracts.kinds.NumberValue.the-impl as number
 use Rattle.detector.specs.contracts.patient.PatientFailureDetector.the-impl as patient
 use Rattle.run.specs.Numbers.{numbers}
-use Rattle.run.specs.Deliver.{consulted, consult-planned}
+use Rattle.run.specs.Consult.{consulted, consult-planned}
 use Rattle.schedule.specs.States.{held}
 use Rattle.schedule.proofs.Outcomes.{consultation, leaves}
 use Rattle.schedule.proofs.calls.consult.Needs as need

@@ -11,7 +11,8 @@ use Rattle.value.specs.contracts.kinds.NumberValue.the-impl as number
 use Rattle.station.specs.Rule.{started}
 use Rattle.station.specs.declared.state.Station.{Station}
 use Rattle.run.specs.Numbers.{gathered, numbers}
-use Rattle.run.specs.Deliver.{posted-bytes, station-at}
+use Rattle.run.specs.Posting.{posted-bytes}
+use Rattle.run.specs.Records.{station-at}
 use Rattle.run.specs.Gather.{Begun, start-result}
 use Rattle.schedule.specs.declared.refusal.LineRefusal.{LineRefusal}
 use Rattle.schedule.specs.declared.refusal.LineRefusal.the-variants as refusal

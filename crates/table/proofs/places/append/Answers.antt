@@ -32,10 +32,10 @@ loop-j-again g c =
     let at : (w + c .from .result) * s ≡ w * s + length (messages f j) = ap (λ k. (w + k) * s) e ∙ add-mul w j s ∙ ap (λ k. w * s + k) (sym len) in
     let room : w * s ≤ (w + c .args .n) * s = mul-le-mul-right s (omega arith) in
     c .write-place .ensures
-      ∙ ap (λ x. put (c .loop-j .bytes) ((w + c .from .result) * s) (written (g .V·Value) x)) (c .address-m .ensures)
-      ∙ ap (λ xs. put xs ((w + c .from .result) * s) (f j)) (c .loop-j .inv)
-      ∙ put-put d (w * s) ((w + c .from .result) * s) (messages f j) (f j) (omega (arith, room, c .pre .0)) at
-      ∙ ap (put d (w * s)) (sym (messages-more f j))
+    ∙ ap (λ x. put (c .loop-j .bytes) ((w + c .from .result) * s) (written (g .V·Value) x)) (c .address-m .ensures)
+    ∙ ap (λ xs. put xs ((w + c .from .result) * s) (f j)) (c .loop-j .inv)
+    ∙ put-put d (w * s) ((w + c .from .result) * s) (messages f j) (f j) (omega (arith, room, c .pre .0)) at
+    ∙ ap (put d (w * s)) (sym (messages-more f j))
 
 pub returns : need.returns
 unfolding appended

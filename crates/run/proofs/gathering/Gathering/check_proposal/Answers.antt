@@ -5,7 +5,7 @@ use lib.Dec.{leb}
 use Rattle.std.proofs.shelf.Lists.{getD-read}
 use Rattle.std.proofs.shelf.Ways.{tells}
 use Rattle.std.specs.Options.{isSome}
-use Rattle.run.specs.Deliver.{blank, station-at}
+use Rattle.run.specs.Records.{blank, station-at}
 use Rattle.run.specs.Gather.{propose-answer}
 use Rattle.run.specs.Numbers.{gathered}
 use Rattle.run.proofs.Possible.{tables-true}

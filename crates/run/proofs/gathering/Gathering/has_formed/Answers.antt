@@ -5,7 +5,7 @@ use native.Mathlib.Omega.{arith}
 use Rattle.std.proofs.shelf.Lists.{getD-read}
 use Rattle.std.proofs.shelf.Ways.{tells}
 use Rattle.station.specs.Rule.{formed}
-use Rattle.run.specs.Deliver.{blank, station-at}
+use Rattle.run.specs.Records.{blank, station-at}
 use Rattle.run.specs.Gather.{record-formed}
 use Rattle.run.proofs.gathering.Gathering.has_formed.Needs as need
 
@@ -25,5 +25,5 @@ returns g c =
     let xs = c .args .stations .now in
     let t : leb n i ≡ false = grind (arith, tells) in
     c .is-formed .ensures
-      ∙ ap (formed n i) (getD-read xs i (c .index-stations-i .result) (omega arith) (c .index-stations-i .is) blank)
-      ∙ sym (ap (λ b. b || formed n i (station-at xs i)) t)
+    ∙ ap (formed n i) (getD-read xs i (c .index-stations-i .result) (omega arith) (c .index-stations-i .is) blank)
+    ∙ sym (ap (λ b. b || formed n i (station-at xs i)) t)

@@ -15,7 +15,7 @@ returns-in-Break-n g c =
     record {
       answer = rw (p .1, p .2) (sym (c .in-Break-n .was tt) ∙ c .check-opening .ensures ∙ ap (λ k. opening (g .V·Value .wide) (c .args .n) k (length (c .args .stations .now)) (length (c .args .bytes .now))) (c .stations .ensures));
       stations = rw (p .1) refl;
-      bytes = rw (p .1)
+      bytes = rw (p .1);
     }
 
 pub reset-requires : need.reset-requires

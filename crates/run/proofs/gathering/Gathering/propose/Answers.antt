@@ -6,7 +6,7 @@ use lib.ListN.{length, set}
 use Rattle.std.proofs.shelf.Lists.{getD-read}
 use Rattle.std.proofs.shelf.Results.{err-from-errBy}
 use Rattle.station.specs.Rule.{proposing}
-use Rattle.run.specs.Deliver.{blank}
+use Rattle.run.specs.Records.{blank}
 use Rattle.run.specs.Numbers.{gathered}
 use Rattle.run.proofs.Opening.{propose-below}
 use Rattle.run.proofs.gathering.Gathering.propose.Needs as need
@@ -16,7 +16,7 @@ returns-in-Break-check-proposal g c =
     let p = err-from-errBy (c .from-residual .result) (c .from-residual .ensures .1) in
     record {
       answer = rw (p .1, p .2) (sym (c .in-Break-check-proposal .was tt) ∙ c .check-proposal .ensures);
-      stations = rw (p .1)
+      stations = rw (p .1);
     }
 
 pub offset-stations-i : need.offset-stations-i
@@ -38,5 +38,5 @@ returns g c =
     let s = getD-read ss (c .args .i) (c .index-stations-i .result) l (c .index-stations-i .is) blank in
     record {
       answer = sym (c .in-Continue-check-proposal .was tt) ∙ c .check-proposal .ensures;
-      stations = ap (set ss (c .args .i)) (c .proposing .ensures ∙ ap (λ x. proposing x (c .args .value)) s)
+      stations = ap (set ss (c .args .i)) (c .proposing .ensures ∙ ap (λ x. proposing x (c .args .value)) s);
     }

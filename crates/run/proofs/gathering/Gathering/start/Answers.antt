@@ -1,7 +1,7 @@
 use mathlib.Core.Path.{_≡_, refl, ap, sym, _∙_}
 use lib.ListN.{length}
 use Rattle.std.specs.declared.result.Result.the-variants.{Ok}
-use Rattle.run.specs.Deliver.{posted-bytes}
+use Rattle.run.specs.Posting.{posted-bytes}
 use Rattle.run.specs.Gather.{start-finished}
 use Rattle.run.specs.Numbers.{gathered}
 use Rattle.run.proofs.Opening.{starts}
@@ -24,5 +24,5 @@ returns g c =
     record {
       answer = ap (λ x. (x, Ok tt)) (c .post .ensures .run) ∙ sym (ap (start-finished (g .V·Value) run) (sym (c .start-plan .ensures) ∙ c .in-Ok .is));
       stations = c .begin-all .ensures;
-      bytes = c .post .ensures .bytes ∙ ap (λ x. posted-bytes (g .V·Value) (c .args .bytes .now) run 0 (x .sent)) (s .step)
+      bytes = c .post .ensures .bytes ∙ ap (λ x. posted-bytes (g .V·Value) (c .args .bytes .now) run 0 (x .sent)) (s .step);
     }

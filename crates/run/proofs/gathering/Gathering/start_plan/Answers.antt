@@ -5,7 +5,8 @@ use mathlib.Core.Bool.{true, false}
 use Rattle.std.proofs.shelf.Lists.{getD-read}
 use Rattle.std.specs.declared.result.Result.the-variants.{Ok}
 use Rattle.station.specs.Rule.{Sound, started}
-use Rattle.run.specs.Deliver.{blank, late, station-at}
+use Rattle.run.specs.Admission.{late}
+use Rattle.run.specs.Records.{blank, station-at}
 use Rattle.run.specs.Gather.{start-planned}
 use Rattle.run.specs.Numbers.{gathered}
 use Rattle.run.proofs.Opening.{begins}

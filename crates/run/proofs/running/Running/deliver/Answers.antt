@@ -3,7 +3,8 @@ use borrow.Author.Needs.{needs}
 use native.Mathlib.Omega.{arith}
 use mathlib.Core.Path.{_≡_, ap, subst, sym, _∙_}
 use lib.ListN.{length}
-use Rattle.run.specs.Deliver.{Postable, emptied}
+use Rattle.run.specs.Deliver.{emptied}
+use Rattle.run.specs.Posting.{Postable}
 use Rattle.run.specs.Numbers.{Numbers, numbers}
 use Rattle.table.specs.Messages.{size}
 use Rattle.run.proofs.Possible.{planned-ready}

@@ -4,7 +4,7 @@ use native.Mathlib.Omega.{arith}
 use mathlib.Core.Path.{_≡_, ap, subst}
 use lib.ListN.{length}
 use borrow.Author.Needs.{needs}
-use Rattle.run.specs.Deliver.{Postable}
+use Rattle.run.specs.Posting.{Postable}
 use Rattle.run.specs.Numbers.{numbers}
 use Rattle.table.specs.Messages.{size}
 use Rattle.run.proofs.Counts.{limit-small}
