@@ -4,7 +4,7 @@ ghost use Rattle.lines.specs.Lines.{extended, number-of, symbol-of};
 use super::syntax::Symbol;
 
 // What a character is to the reader of a field.
-pub fn classify(c: char) -> Symbol
+pub(super) fn classify(c: char) -> Symbol
     ensures { λ r. ⌜ r ≡ symbol-of c ⌝ }
 {
     match c {
@@ -31,7 +31,7 @@ fn extend(value: u64, digit: u8) -> Option<u64>
 }
 
 // The number of 1 to 20 digits below 2^64 that the text writes.
-pub fn read_number(text: &[u8]) -> Option<u64>
+pub(super) fn read_number(text: &[u8]) -> Option<u64>
     ensures { λ r. ⌜ r ≡ number-of (now (text .entry)) ⌝ }
 {
     if text.is_empty() || text.len() > 20 {

@@ -236,9 +236,4 @@ impl Gathering {
         running.post(bytes, 0, &step.sent);
         Ok(running)
     }
-
-    // Gives up a run that was never started.
-    pub fn abandon(self) {
-        let Gathering { n: _, places: _ } = self;
-    }
 }

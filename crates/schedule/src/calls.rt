@@ -23,7 +23,7 @@ use value::NumberValue;
 const TABLE: usize = 600 * 32;
 
 // A run of `n` stations with its tables and a detector of this patience.
-pub fn open(
+pub(super) fn open(
     heap: Global,
     n: u64,
     patience: u64,
@@ -53,7 +53,7 @@ pub fn open(
 }
 
 // Station `i` proposes a number.
-pub fn propose(
+pub(super) fn propose(
     gathering: Gathering,
     mut desk: Desk,
     i: u64,
@@ -72,7 +72,7 @@ pub fn propose(
 }
 
 // The run starts, or goes on gathering.
-pub fn start(gathering: Gathering, mut desk: Desk) -> (Session, Option<LineRefusal>)
+pub(super) fn start(gathering: Gathering, mut desk: Desk) -> (Session, Option<LineRefusal>)
     ensures { λ r. ⌜ Starts (gathered gathering) (held desk) (r .1) (state (r .0)) ⌝ }
 {
     match gathering.start(&mut desk.stations, &mut desk.bytes, &desk.detector) {
@@ -88,7 +88,11 @@ pub fn start(gathering: Gathering, mut desk: Desk) -> (Session, Option<LineRefus
 }
 
 // The message at place `k` is delivered.
-pub fn deliver(mut running: Running, mut desk: Desk, k: u64) -> (Session, Option<LineRefusal>)
+pub(super) fn deliver(
+    mut running: Running,
+    mut desk: Desk,
+    k: u64,
+) -> (Session, Option<LineRefusal>)
     ensures { λ r. ⌜ Delivers (numbers running) (held desk) k (r .1) (state (r .0)) ⌝ }
 {
     let answer = running.deliver(
@@ -101,7 +105,11 @@ pub fn deliver(mut running: Running, mut desk: Desk, k: u64) -> (Session, Option
 }
 
 // Station `i` is consulted.
-pub fn consult(mut running: Running, mut desk: Desk, i: u64) -> (Session, Option<LineRefusal>)
+pub(super) fn consult(
+    mut running: Running,
+    mut desk: Desk,
+    i: u64,
+) -> (Session, Option<LineRefusal>)
     ensures { λ r. ⌜ Consults (numbers running) (held desk) i (r .1) (state (r .0)) ⌝ }
 {
     let answer = running.consult(
@@ -114,7 +122,7 @@ pub fn consult(mut running: Running, mut desk: Desk, i: u64) -> (Session, Option
 }
 
 // Station `i` crashes.
-pub fn crash(running: Running, mut desk: Desk, i: u64) -> (Session, Option<LineRefusal>)
+pub(super) fn crash(running: Running, mut desk: Desk, i: u64) -> (Session, Option<LineRefusal>)
     ensures { λ r. ⌜ Crashes (numbers running) (held desk) i (r .1) (state (r .0)) ⌝ }
 {
     let answer = running.crash(
@@ -127,7 +135,7 @@ pub fn crash(running: Running, mut desk: Desk, i: u64) -> (Session, Option<LineR
 }
 
 // The failure detector passes.
-pub fn pass(running: Running, mut desk: Desk) -> (Session, Option<LineRefusal>)
+pub(super) fn pass(running: Running, mut desk: Desk) -> (Session, Option<LineRefusal>)
     ensures { λ r. ⌜ Passes (numbers running) (held desk) (r .1) (state (r .0)) ⌝ }
 {
     let answer = running.pass(&desk.stations, &desk.bytes, &mut desk.detector);

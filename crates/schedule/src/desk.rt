@@ -19,7 +19,7 @@ pub struct Desk {
 }
 
 // A record for each of `n` stations, to be filled in by the opening of a run.
-pub fn blank_stations(heap: Global, n: usize) -> Result<Vec<Station<Number>>, AllocError>
+pub(super) fn blank_stations(heap: Global, n: usize) -> Result<Vec<Station<Number>>, AllocError>
     ensures { λ r. ⌜ made r (λ v. vec-len v ≡ n) ⌝ }
 {
     let mut stations = Vec::new(heap);
@@ -30,7 +30,7 @@ pub fn blank_stations(heap: Global, n: usize) -> Result<Vec<Station<Number>>, Al
 }
 
 // A table of `n` bytes with nothing in it.
-pub fn blank_bytes(heap: Global, n: usize) -> Result<Vec<u8>, AllocError>
+pub(super) fn blank_bytes(heap: Global, n: usize) -> Result<Vec<u8>, AllocError>
     ensures { λ r. ⌜ made r (λ v. Blank n (vec-items v)) ⌝ }
 {
     vec![in heap; 0u8; n]

@@ -24,7 +24,7 @@ impl LineRefusal {
 }
 
 // The refusal in what a run answered, if it refused.
-pub fn refusal_in<T: Drop>(answer: Result<T, Refusal>) -> Option<LineRefusal>
+pub(super) fn refusal_in<T: Drop>(answer: Result<T, Refusal>) -> Option<LineRefusal>
     ensures { λ r. ⌜ r ≡ refused answer ⌝ }
 {
     match answer {
