@@ -5,4 +5,5 @@ pub mod Known
 pub mod Possible
 pub mod Plans
 pub mod Crashes
+pub mod Every
 pub mod Opening

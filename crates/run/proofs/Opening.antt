@@ -26,7 +26,8 @@ use Rattle.run.specs.declared.refusal.Refusal.the-variants as refusal
 use Rattle.run.specs.Admission.{late}
 use Rattle.run.specs.Posting.{Postable}
 use Rattle.run.specs.Records.{station-at}
-use Rattle.run.specs.Gather.{all-formed, all-proposed, opening, propose-answer, record-formed, start-planned}
+use Rattle.run.specs.Gather.{all-formed, all-proposed, opening, propose-answer, proposed, record-formed, start-planned}
+use Rattle.run.proofs.Every.{all-at}
 use Rattle.run.specs.Numbers.{Numbers, limit, tables-fit}
 use Rattle.run.proofs.Known.{unrefused}
 use Rattle.run.proofs.Possible.{not-false, postable-by, tables-true}
@@ -68,32 +69,16 @@ opens wide n known stations bytes p e =
     })
 
 module _ {V : Type 0} where
-  -- each record that was tested
-  formed-from : (n i : ℕ) (ss : List (Station V)) (k : ℕ) → all-formed n i ss ≡ true → k < length ss → formed n (i + k) (station-at ss k) ≡ true
-  unfolding all-formed
-  formed-from n i [] k e h = absurd (omega arith)
-  formed-from n i (s ∷ ss) zero e h = let z : i ≡ i + 0 = omega arith in let P : ℕ → Type 0 = λ j. formed n j s ≡ true in subst P z (and-parts _ _ e .0)
-  formed-from n i (s ∷ ss) (suc k) e h =
-      let z : (i + 1) + k ≡ i + suc k = omega arith in
-      let P : ℕ → Type 0 = λ j. formed n j (station-at ss k) ≡ true in
-      subst P z (formed-from n (i + 1) ss k (and-parts _ _ e .1) (omega arith))
-
-  proposed-at : (ss : List (Station V)) (k : ℕ) → all-proposed ss ≡ true → k < length ss → isSome (station-at ss k .estimate) ≡ true
-  unfolding all-proposed
-  proposed-at [] k e h = absurd (omega arith)
-  proposed-at (s ∷ ss) zero e h = and-parts _ _ e .0
-  proposed-at (s ∷ ss) (suc k) e h = proposed-at ss k (and-parts _ _ e .1) (omega arith)
-
   -- a record that may begin round 0
   pub record Begins (n : ℕ) (s : Station V) : Type 0 where
     pub holds : Sound s
     pub same : s .n ≡ n
 
-  begins-at : (n : ℕ) (ss : List (Station V)) (k : ℕ) → 3 ≤ n → n ≤ 32 → length ss ≡ n → all-formed n 0 ss ≡ true → all-proposed ss ≡ true → k < n → Begins n (station-at ss k)
+  begins-at : (n : ℕ) (ss : List (Station V)) (k : ℕ) → 3 ≤ n → n ≤ 32 → length ss ≡ n → all-formed n ss ≡ true → all-proposed ss ≡ true → k < n → Begins n (station-at ss k)
   begins-at n ss k few many l f p h =
       let z : 0 + k ≡ k = omega arith in
       let P : ℕ → Type 0 = λ j. formed n j (station-at ss k) ≡ true in
-      let t : sound n k (station-at ss k) ≡ true = and-from _ _ (subst P z (formed-from n 0 ss k f (omega arith))) (proposed-at ss k p (omega arith)) in
+      let t : sound n k (station-at ss k) ≡ true = and-from _ _ (subst P z (all-at (formed n) 0 ss k f (omega arith))) (all-at proposed 0 ss k p (omega arith)) in
       record { holds = sound-true n k (station-at ss k) few many h t; same = sound-size n k (station-at ss k) t }
 
 -- what a station may count on that a proposal names
@@ -110,7 +95,7 @@ module _ {V : Type 0} (of : Ghosts V) (run : Numbers) where
 
   module _ (few : 3 ≤ run .n) (many : run .n ≤ 32) where
     -- the records before round 0 begins
-    pub begins : (ss : List (Station V)) → length ss ≡ run .n → all-formed (run .n) 0 ss ≡ true → all-proposed ss ≡ true → (k : ℕ) → k < length ss → Begins (run .n) (station-at ss k)
+    pub begins : (ss : List (Station V)) → length ss ≡ run .n → all-formed (run .n) ss ≡ true → all-proposed ss ≡ true → (k : ℕ) → k < length ss → Begins (run .n) (station-at ss k)
     begins ss l f p k h = begins-at (run .n) ss k few many l f p (omega arith)
 
     -- a start
@@ -131,7 +116,7 @@ module _ {V : Type 0} (of : Ghosts V) (run : Numbers) where
       starts ss bytes x e =
           let r = unrefused (not (tables-fit (of .wide) run (length ss) bytes)) refusal.Tables _ x e in
           let t = tables-true (of .wide) run (length ss) bytes (not-false _ (r .0)) in
-          let u = unrefused (not (all-formed (run .n) 0 ss)) refusal.Tables _ x (r .1) in
+          let u = unrefused (not (all-formed (run .n) ss)) refusal.Tables _ x (r .1) in
           let v = unrefused (not (all-proposed ss)) refusal.Missing _ x (u .1) in
           let s = station-at ss 0 in
           let w = unrefused (late (started s .1 .sent)) refusal.Stamp _ x (v .1) in

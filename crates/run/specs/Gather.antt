@@ -47,15 +47,21 @@ module _ {V : Type 0} where
   unfoldable pub record-formed : ℕ → List (Station V) → ℕ → Bool
   record-formed n stations i = leb n i || formed n i (station-at stations i)
 
-  -- the same of the records from station i on
-  unfoldable pub all-formed : ℕ → ℕ → List (Station V) → Bool
-  all-formed n i [] = true
-  all-formed n i (s ∷ ss) = formed n i s && all-formed n (i + 1) ss
+  -- each record passes a test, from that of station i on
+  unfoldable pub all-from : (ℕ → Station V → Bool) → ℕ → List (Station V) → Bool
+  all-from test i [] = true
+  all-from test i (s ∷ ss) = test i s && all-from test (i + 1) ss
 
-  -- every station has proposed
-  unfoldable pub all-proposed : List (Station V) → Bool
-  all-proposed [] = true
-  all-proposed (s ∷ ss) = isSome (s .estimate) && all-proposed ss
+  -- each record is one of before the start
+  abbrev pub all-formed : ℕ → List (Station V) → Bool
+  all-formed n = all-from (formed n) 0
+
+  abbrev pub proposed : ℕ → Station V → Bool
+  proposed i s = isSome (s .estimate)
+
+  -- each station has proposed
+  abbrev pub all-proposed : List (Station V) → Bool
+  all-proposed = all-from proposed 0
 
   -- round 0 has begun at each station
   pub record Begun (stations stations′ : List (Station V)) : Type 0 where
@@ -85,7 +91,7 @@ module _ {V : Type 0} (of : Ghosts V) where
   unfoldable pub start-planned : Numbers → List (Station V) → ℕ → Result (Step V) Refusal
   start-planned run stations bytes = refusing
       ((not (tables-fit (of .wide) run (length stations) bytes), refusal.Tables) ∷
-      (not (all-formed (run .n) 0 stations), refusal.Tables) ∷
+      (not (all-formed (run .n) stations), refusal.Tables) ∷
       (not (all-proposed stations), refusal.Missing) ∷
       (late (started (station-at stations 0) .1 .sent), refusal.Stamp) ∷ [])
       (Ok (started (station-at stations 0) .1))

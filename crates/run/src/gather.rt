@@ -57,7 +57,7 @@ fn reset<V: Value>(stations: &mut [Station<V>], n: u8)
 // Whether each record is one that a run of `n` stations can have before the start.
 fn are_formed<V: Value>(stations: &[Station<V>], n: u8) -> bool
     requires { ⌜ length (now stations) ≡ n ⌝ }
-    ensures { λ r. ⌜ r ≡ all-formed n 0 (now (stations .entry)) ⌝ }
+    ensures { λ r. ⌜ r ≡ all-formed n (now (stations .entry)) ⌝ }
 {
     for i in 0..n {
         let s = stations[usize::from(i)];
