@@ -14,7 +14,7 @@ use Rattle.run.specs.Records.{station-at}
 module _ {V : Type 0} (test : ℕ → Station V → Bool) where
   -- the next record, and those behind it
   pub all-next : (xs : List (Station V)) (i : ℕ) (s : Station V) (b : Bool) → i < length xs → s ≡ getD xs i s → test i s ≡ b
-    → all-from test i (drop i xs) ≡ all-from test 0 xs → (b && all-from test (i + 1) (drop (i + 1) xs)) ≡ all-from test 0 xs
+      → all-from test i (drop i xs) ≡ all-from test 0 xs → (b && all-from test (i + 1) (drop (i + 1) xs)) ≡ all-from test 0 xs
   unfolding all-from
   all-next xs i s b h at e inv =
       let rest = all-from test (i + 1) (drop (i + 1) xs) in

@@ -1,7 +1,7 @@
 -- What is known of a message whose units name stations, and of what is refused by no test.
-use Prim.Native.Nat.{ℕ, _≤_, _<_, _+_}
+use Prim.Native.Nat.{ℕ, _<_}
 use native.Mathlib.Omega.{arith}
-use mathlib.Core.Path.{_≡_, refl, sym, ap, _∙_, subst}
+use mathlib.Core.Path.{_≡_, refl, ap, subst}
 use mathlib.Core.Bool.{Bool, true, false, cond}
 use lib.Dec.{leb}
 use borrow.Author.Tests.{leb-false}
@@ -10,12 +10,10 @@ use Rattle.std.specs.declared.result.Result.the-variants.{Ok, Err}
 use Rattle.message.specs.declared.types.Message.{Message}
 use Rattle.message.specs.declared.types.Message.the-variants as message
 use Rattle.message.specs.declared.types.MessageFault.{MessageFault}
-use Rattle.message.specs.Format.{next}
 use Rattle.message.proofs.Trips.{before}
 use Rattle.station.specs.declared.broadcast.Content.{Content}
 use Rattle.station.specs.declared.broadcast.Content.the-variants as content
 use Rattle.station.specs.declared.broadcast.Broadcast.{Broadcast}
-use Rattle.run.specs.declared.refusal.Refusal.{Refusal}
 use Rattle.run.specs.Refusals.{of-message}
 use Rattle.run.specs.Incoming.{content-for, head, incoming-for, origin-for, station-unit}
 use Rattle.run.proofs.Posts.{Origin}

@@ -1,27 +1,22 @@
 -- What is known of an opening, a proposal and a start that no test refuses.
-use Prim.Native.Nat.{ℕ, zero, suc, _+_, _-_, _*_, _/_, _%_, _<_, _≤_}
+use Prim.Native.Nat.{ℕ, _+_, _*_, _/_, _%_, _<_, _≤_}
 use native.Mathlib.Omega.{arith}
 use native.Mathlib.Nat.{mul-le-mul-left}
-use mathlib.Core.Path.{_≡_, refl, sym, ap, _∙_, subst}
-use mathlib.Core.Bool.{Bool, true, false, cond, not, _&&_, _||_}
-use mathlib.Core.List.{List, [], _∷_}
+use mathlib.Core.Path.{_≡_, refl, subst}
+use mathlib.Core.Bool.{Bool, true, false, not, _&&_, _||_}
+use mathlib.Core.List.{List}
 use lib.Dec.{eqb, leb, ltb}
 use lib.ListN.{length}
 use borrow.Author.Tests.{eqb-true, leb-false, ltb-false, le-ltb}
-use Rattle.std.proofs.shelf.Tests.{and-from, and-parts, and-right}
+use Rattle.std.proofs.shelf.Tests.{and-from, and-right}
 use Rattle.std.proofs.shelf.Bits.{div-add-mod'}
 use Rattle.std.specs.Options.{isSome}
-use Rattle.std.specs.declared.option.Option.{Option}
-use Rattle.std.specs.declared.result.Result.{Result}
-use Rattle.std.specs.declared.result.Result.the-variants.{Ok, Err}
+use Rattle.std.specs.declared.result.Result.the-variants.{Ok}
 use Rattle.value.specs.declared.Value.{Ghosts}
 use Rattle.station.specs.Rule.{Sound, formed, sound, started}
 use Rattle.station.proofs.Sound.{sound-size, sound-true}
 use Rattle.station.specs.declared.state.Station.{Station}
 use Rattle.station.specs.declared.step.Step.{Step}
-use Rattle.station.specs.declared.broadcast.Broadcast.{Broadcast}
-use Rattle.table.specs.Messages.{size}
-use Rattle.run.specs.declared.refusal.Refusal.{Refusal}
 use Rattle.run.specs.declared.refusal.Refusal.the-variants as refusal
 use Rattle.run.specs.Admission.{late}
 use Rattle.run.specs.Posting.{Postable}

@@ -1,30 +1,23 @@
 -- What a plan is, by the way on which it was made.
-use Prim.Native.Nat.{ℕ, _≤_, _<_, _-_, _*_}
-use mathlib.Core.Path.{_≡_, refl, sym, ap, _∙_}
-use mathlib.Core.Bool.{Bool, true, false, cond, not}
+use Prim.Native.Nat.{ℕ, _-_}
+use mathlib.Core.Path.{_≡_}
+use mathlib.Core.Bool.{Bool, true, false}
 use mathlib.Core.List.{List}
-use lib.Dec.{leb}
-use lib.ListN.{length}
-use Rattle.std.specs.declared.result.Result.{Result}
 use Rattle.std.specs.declared.result.Result.the-variants.{Ok, Err}
 use Rattle.value.specs.declared.Value.{Ghosts}
 use Rattle.message.specs.declared.types.Message.{Message}
 use Rattle.message.specs.declared.types.MessageFault.{MessageFault}
-use Rattle.message.specs.Format.{next}
 use Rattle.station.specs.declared.state.Station.{Station}
 use Rattle.station.specs.declared.step.Step.{Step}
-use Rattle.table.specs.Places.{place}
-use Rattle.run.specs.declared.plan.Plan.{Plan}
 use Rattle.run.specs.declared.refusal.Refusal.{Refusal}
 use Rattle.run.specs.declared.refusal.Refusal.the-variants as refusal
-use Rattle.run.specs.Numbers.{Numbers, tables-fit}
-use Rattle.run.specs.Refusals.{of-message, the-message}
+use Rattle.run.specs.Numbers.{Numbers}
+use Rattle.run.specs.Refusals.{the-message}
 use Rattle.run.specs.Incoming.{head, incoming-for}
-use Rattle.table.specs.Messages.{size, understood}
 use Rattle.station.specs.declared.broadcast.Broadcast.{Broadcast}
 use Rattle.run.specs.Admission.{admitted}
 use Rattle.run.specs.Consult.{after-consulting, consult-planned}
-use Rattle.run.specs.Deliver.{planned, planned-for, tried}
+use Rattle.run.specs.Deliver.{planned-for, tried}
 use Rattle.run.specs.Records.{named, record-sound, station-at}
 
 module _ {V : Type 0} (run : Numbers) (ss : List (Station V)) (m : Message V) where

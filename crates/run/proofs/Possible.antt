@@ -4,7 +4,7 @@ use native.Mathlib.Omega.{arith}
 use mathlib.Core.Path.{_≡_, refl, sym, ap, _∙_, subst}
 use mathlib.Core.Bool.{Bool, true, false, cond, not, _&&_, _||_}
 use mathlib.Core.List.{List}
-use lib.Dec.{eqb, leb, ltb}
+use lib.Dec.{leb, ltb}
 use lib.ListN.{length}
 use borrow.Author.Tests.{eqb-true, leb-false, ltb-false, le-leb}
 use Rattle.std.proofs.shelf.Tests.{and-parts}
@@ -17,9 +17,8 @@ use Rattle.std.specs.declared.result.Result.the-variants.{Ok, Err}
 use Rattle.value.specs.declared.Value.{Ghosts}
 use Rattle.message.specs.declared.types.Head.{Head}
 use Rattle.message.specs.declared.types.Message.{Message}
-use Rattle.message.specs.declared.types.MessageFault.{MessageFault}
 use Rattle.message.specs.declared.types.Reason.the-variants as reason
-use Rattle.message.specs.Format.{all-within, fault, head-within, next, within}
+use Rattle.message.specs.Format.{all-within, fault, head-within, within}
 use Rattle.message.proofs.Trips.{before, step}
 use Rattle.station.specs.Rule.{Sound, coordinator, quiet, sound, take-rule}
 use Rattle.station.proofs.Sound.{sound-size, sound-true}
@@ -32,13 +31,12 @@ use Rattle.station.specs.declared.step.Outcome.the-variants as outcome
 use Rattle.station.specs.declared.step.Refused.{Refused}
 use Rattle.table.specs.Places.{place}
 use Rattle.run.specs.declared.plan.Plan.{Plan}
-use Rattle.run.specs.declared.refusal.Refusal.{Refusal}
 use Rattle.run.specs.declared.refusal.Refusal.the-variants as refusal
 use Rattle.run.specs.Numbers.{Numbers, limit, tables-fit}
-use Rattle.run.specs.Refusals.{of-message, of-step}
+use Rattle.run.specs.Refusals.{of-message}
 use Rattle.run.specs.Incoming.{Ranges, head, incoming-for}
 use Rattle.table.specs.Messages.{understood}
-use Rattle.table.specs.Messages.{addressed, head-from, message-with, size}
+use Rattle.table.specs.Messages.{head-from, message-with, size}
 use Rattle.run.specs.Admission.{admitted, late}
 use Rattle.run.specs.Consult.{after-consulting, consult-planned}
 use Rattle.run.specs.Deliver.{emptied, paired, planned, planned-for, tried}

@@ -1,15 +1,15 @@
 -- What a station sends is within the ranges of a message, if its round is.
 use Prim.Native.Nat.{ℕ, _≤_, _<_, _+_, _%_, max}
 use native.Mathlib.Omega.{arith}
-use mathlib.Core.Path.{_≡_, refl, sym, ap, _∙_, subst}
-use mathlib.Core.Bool.{Bool, true, false, cond}
+use mathlib.Core.Path.{_≡_, refl}
+use mathlib.Core.Bool.{Bool, true, false}
 use lib.Dec.{eqb, ltb}
 use Rattle.std.specs.Options.{isSome, mapped}
 use Rattle.std.specs.declared.option.Option.{Option}
 use Rattle.std.specs.declared.option.Option.the-variants.{Some, None}
 use Rattle.std.specs.declared.result.Result.{Result}
 use Rattle.std.specs.declared.result.Result.the-variants.{Ok, Err}
-use Rattle.station.specs.Rule.{Sound, accepted, adopted, at-stamp, began, consult-rule, content-rule, coordinator, counted-first, counted-second, counted-suspicion, decided, due, enough, in-round-rule, joined-second, preferred, quiet, round-rule, started, take-rule}
+use Rattle.station.specs.Rule.{Sound, adopted, began, consult-rule, content-rule, coordinator, counted-first, counted-second, counted-suspicion, due, enough, in-round-rule, joined-second, preferred, round-rule, started, take-rule}
 use Rattle.station.specs.declared.state.Station.{Station}
 use Rattle.station.specs.declared.state.Phase.{Phase}
 use Rattle.station.specs.declared.state.Phase.the-variants as phase
@@ -17,9 +17,7 @@ use Rattle.station.specs.declared.broadcast.Content.{Content}
 use Rattle.station.specs.declared.broadcast.Content.the-variants as content
 use Rattle.station.specs.declared.step.Step.{Step}
 use Rattle.station.specs.declared.broadcast.Broadcast.{Broadcast}
-use Rattle.station.specs.declared.step.Outcome.the-variants as outcome
 use Rattle.station.specs.declared.step.Refused.{Refused}
-use Rattle.station.specs.declared.step.Refused.the-variants as refused
 
 on : {P : Type 0} (b : Bool) → (b ≡ true → P) → (b ≡ false → P) → P
 on true p q = p refl

@@ -1,7 +1,7 @@
 -- A message that was read is within its ranges.
-use Prim.Native.Nat.{ℕ, _≤_, _<_, _+_}
+use Prim.Native.Nat.{ℕ, _≤_}
 use native.Mathlib.Omega.{arith}
-use mathlib.Core.Path.{_≡_, refl, sym, ap, _∙_, subst}
+use mathlib.Core.Path.{_≡_, refl, ap, _∙_, subst}
 use mathlib.Core.List.{List}
 use mathlib.Core.Bool.{Bool, true, false, cond, _&&_}
 use lib.Dec.{leb}
@@ -17,9 +17,8 @@ use Rattle.message.specs.declared.types.Kind.the-variants as kind
 use Rattle.message.specs.declared.types.Message.{Message}
 use Rattle.message.specs.declared.types.Message.the-variants as message
 use Rattle.message.specs.declared.types.MessageFault.{MessageFault}
-use Rattle.message.specs.declared.types.Reason.the-variants as reason
-use Rattle.message.specs.Format.{next, fault, united, ranged, kinded, headed, within, head-within, all-within, valued, bodied, decoded, opened}
-use Rattle.message.proofs.Trips.{before, step}
+use Rattle.message.specs.Format.{united, ranged, kinded, headed, within, valued, bodied, decoded, opened}
+use Rattle.message.proofs.Trips.{before}
 use Rattle.table.specs.Messages.{reopened, understood}
 use Rattle.run.specs.Incoming.{Ranges, head}
 

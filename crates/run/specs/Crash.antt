@@ -1,6 +1,6 @@
 -- Crashes and passes.
-use Prim.Native.Nat.{ℕ, _+_, _-_, _*_, _<_, _≤_}
-use mathlib.Core.Bool.{Bool, true, false, not, _&&_}
+use Prim.Native.Nat.{ℕ, _+_, _*_, _<_, _≤_}
+use mathlib.Core.Bool.{Bool, true, false, not}
 use mathlib.Core.List.{List, [], _∷_}
 use mathlib.Core.Path.{_≡_}
 use lib.Dec.{leb}
@@ -10,7 +10,7 @@ use Rattle.std.specs.declared.result.Result.{Result}
 use Rattle.std.specs.declared.result.Result.the-variants.{Ok, Err}
 use Rattle.value.specs.declared.Value.{Ghosts}
 use Rattle.detector.specs.declared.FailureDetector.{Ghosts as DetectorGhosts}
-use Rattle.detector.specs.Meaning.{Meaning, Passed, Told, meaning}
+use Rattle.detector.specs.Meaning.{Meaning, Told, meaning}
 use Rattle.message.specs.Format.{next}
 use Rattle.station.specs.declared.state.Station.{Station}
 use Rattle.run.specs.Numbers.{Numbers, tables-fit}

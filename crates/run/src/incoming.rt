@@ -1,5 +1,5 @@
 // A message as the stations of a run take it.
-ghost use Prim.Native.Nat.{ℕ, _+_, _*_, _<_, _≤_};
+ghost use Prim.Native.Nat.{_≤_};
 ghost use mathlib.Core.Path.{_≡_};
 ghost use Rattle.run.specs.Incoming.{content-for, head, incoming-for, origin-for, station-unit};
 use message::Head;

@@ -1,5 +1,5 @@
 // The limits of a run, tested on what a step would leave and send.
-ghost use Prim.Native.Nat.{ℕ, _≤_};
+ghost use Prim.Native.Nat.{_≤_};
 ghost use mathlib.Core.Path.{_≡_};
 ghost use Rattle.run.specs.Admission.{admitted, late};
 ghost use Rattle.run.specs.Numbers.{limit, numbers};

@@ -1,5 +1,5 @@
 -- The rules of one station.
-use Prim.Native.Nat.{ℕ, _+_, _*_, _%_, _<_, _≤_, max, compare}
+use Prim.Native.Nat.{ℕ, _+_, _*_, _%_, _<_, _≤_, max}
 use mathlib.Core.Path.{_≡_}
 use mathlib.Core.Bool.{Bool, true, false, cond, not, _&&_}
 use lib.Dec.{ltb, leb, eqb}

@@ -1,5 +1,5 @@
 // The rules by which a live station takes a message.
-ghost use Prim.Native.Nat.{ℕ, _+_, _*_, _<_, _≤_};
+ghost use Prim.Native.Nat.{_+_, _*_, _<_, _≤_};
 ghost use mathlib.Core.Bool.{true};
 ghost use mathlib.Core.Path.{_≡_};
 ghost use Rattle.station.specs.Rule.{Sound, adopted, began, consult-rule, coordinator, counted-first, counted-second, counted-suspicion, decided, due, enough, formed, fresh, joined-second, maybe-sending, preferred, proposing, quiet, second-of, sending, sound, started, take-rule};

@@ -1,14 +1,14 @@
 -- What a write to a part of the table leaves.
 use Prim.Native.Nat.{ℕ, zero, suc, _+_, _-_, _*_, _<_, _≤_}
-use mathlib.Core.List.{List, [], _∷_, _++_}
+use mathlib.Core.List.{List, [], _++_}
 use mathlib.Core.Path.{_≡_, refl, sym, ap, _∙_}
-use lib.ListN.{length, take, drop, replicate, getD, set, length-take, length-drop}
+use lib.ListN.{length, take, drop, getD, set, length-take, length-drop}
 use lib.Seq.{paste, getD-drop, getD-take}
 use native.Mathlib.Omega.{arith}
 use borrow.Rule.Slice.PartMut.{putMid}
 use Rattle.std.proofs.shelf.Parts.{putMid-paste}
-use Rattle.std.proofs.shelf.Edits.{paste-all, paste-more, drop-paste, paste-paste, length-paste}
-use Rattle.std.proofs.shelf.Lists.{append-nil, drop-all, length-append, length-replicate, take-append-drop}
+use Rattle.std.proofs.shelf.Edits.{paste-all, paste-more, drop-paste, paste-paste}
+use Rattle.std.proofs.shelf.Lists.{length-append, take-append-drop}
 use native.Mathlib.Nat.{zero-mul, suc-mul}
 use native.Mathlib.Numerals.{add-one}
 use Rattle.table.specs.Places.{put, place, messages}

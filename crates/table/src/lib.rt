@@ -1,5 +1,5 @@
 // A table of bytes that is cut into places of one size; the waiting messages fill the places from 0.
-ghost use Prim.Native.Nat.{ℕ, _+_, _-_, _*_, _<_, _≤_};
+ghost use Prim.Native.Nat.{_+_, _-_, _*_, _<_, _≤_};
 ghost use lib.ListN.{length, replicate};
 ghost use mathlib.Core.Path.{_≡_};
 ghost use Rattle.table.specs.Places.{place, put, taken-out};

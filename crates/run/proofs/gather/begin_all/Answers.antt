@@ -1,13 +1,11 @@
-use Prim.Native.Nat.{ℕ, _+_, _<_, _≤_}
 use mathlib.Core.Logic.{_≢_}
-use mathlib.Core.Path.{_≡_, ap, subst, sym, _∙_}
-use lib.ListN.{length, getD, set}
+use mathlib.Core.Path.{ap, subst, sym, _∙_}
 use lib.Seq.{getD-set-same, getD-set-other}
 use native.Mathlib.Omega.{arith}
 use borrow.Author.Count.{below-more}
 use Rattle.std.proofs.shelf.Lists.{getD-read}
 use Rattle.station.specs.Rule.{Sound, started}
-use Rattle.run.specs.Records.{blank, station-at}
+use Rattle.run.specs.Records.{blank}
 use Rattle.run.proofs.gather.begin_all.Needs as need
 
 pub begin-requires : need.begin-requires

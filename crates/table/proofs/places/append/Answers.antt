@@ -1,10 +1,9 @@
 use mathlib.Core.List.{List}
-use Prim.Native.Nat.{ℕ, _+_, _<_, _≤_, _-_, _*_}
-use mathlib.Core.Path.{_≡_, _∙_, ap, refl, sym}
+use Prim.Native.Nat.{ℕ, _+_, _≤_, _*_}
+use mathlib.Core.Path.{_≡_, _∙_, ap, sym}
 use lib.ListN.{length}
 use native.Mathlib.Nat.{add-mul, mul-le-mul-right}
 use native.Mathlib.Omega.{arith}
-use borrow.Author.Needs.{needs}
 use Rattle.message.specs.Format.{all-within}
 use Rattle.table.specs.Places.{put, messages}
 use Rattle.table.proofs.Puts.{length-messages, messages-more, put-none, put-put}

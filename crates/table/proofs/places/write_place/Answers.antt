@@ -1,11 +1,9 @@
-use Prim.Native.Nat.{_+_, _<_, _-_, _*_}
-use mathlib.Core.Path.{_≡_, _∙_, ap, refl, sym}
-use lib.ListN.{length, take, drop, length-take, length-drop}
+use Prim.Native.Nat.{_+_, _-_, _*_}
+use mathlib.Core.Path.{_≡_, _∙_, ap}
+use lib.ListN.{length}
 use native.Mathlib.Omega.{arith}
-use borrow.Author.Needs.{needs}
 use Rattle.table.specs.Places.{put}
 use Rattle.table.proofs.Puts.{putMid-put}
-use Rattle.table.proofs.Rows.{row-end}
 use Rattle.table.specs.Messages.{size, written}
 use Rattle.table.proofs.Writes.{length-written}
 use Rattle.table.proofs.places.write_place.Needs as need

@@ -1,7 +1,5 @@
-use Prim.Native.Nat.{_<_}
 use borrow.Author.Needs.{needs}
-use native.Mathlib.Omega.{arith}
-use mathlib.Core.Path.{_≡_, ap, sym, _∙_}
+use mathlib.Core.Path.{ap, sym, _∙_}
 use lib.ListN.{length, set}
 use Rattle.std.proofs.shelf.Lists.{getD-read}
 use Rattle.std.proofs.shelf.Results.{err-from-errBy}

@@ -1,12 +1,11 @@
-use Prim.Native.Nat.{ℕ, _+_, _*_, _<_, _≤_}
+use Prim.Native.Nat.{ℕ, _*_, _<_, _≤_}
 use borrow.Author.Needs.{needs}
 use native.Mathlib.Omega.{arith}
-use mathlib.Core.Path.{_≡_, ap, subst, sym, _∙_}
+use mathlib.Core.Path.{_≡_, subst, sym, _∙_}
 use lib.ListN.{length}
 use Rattle.run.specs.Deliver.{emptied}
 use Rattle.run.specs.Posting.{Postable}
 use Rattle.run.specs.Numbers.{Numbers, numbers}
-use Rattle.table.specs.Messages.{size}
 use Rattle.run.proofs.Possible.{planned-ready}
 use Rattle.run.proofs.running.Running.deliver.Needs as need
 

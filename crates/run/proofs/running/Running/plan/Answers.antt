@@ -1,15 +1,13 @@
-use Prim.Native.Nat.{ℕ, _+_, _*_, _<_, _≤_}
-use borrow.Author.Needs.{needs}
+use Prim.Native.Nat.{_+_, _*_, _≤_}
 use native.Mathlib.Omega.{arith}
 use native.Mathlib.Nat.{mul-le-mul-right}
 use mathlib.Core.Bool.{true, false}
-use mathlib.Core.Path.{_≡_, ap, subst, sym, _∙_}
+use mathlib.Core.Path.{_≡_, sym, _∙_}
 use lib.Dec.{leb}
-use lib.ListN.{length}
 use Rattle.std.proofs.shelf.Results.{err-from-errBy}
 use Rattle.std.proofs.shelf.Ways.{tells}
 use Rattle.run.specs.Deliver.{planned}
-use Rattle.run.specs.Numbers.{numbers, tables-fit}
+use Rattle.run.specs.Numbers.{numbers}
 use Rattle.table.specs.Messages.{size}
 use Rattle.run.proofs.Possible.{tables-true}
 use Rattle.run.proofs.Within.{understood-ranges}
