@@ -31,6 +31,7 @@ module _ {V : Type 0} (of : Ghosts V) (suspects : ℕ → ℕ → Bool) where
       next (admitted run (run .waiting) (after-consulting i (station-at stations i) .0) (after-consulting i (station-at stations i) .1)) (λ _.
       Ok (record { to = i; station = after-consulting i (station-at stations i) .0; step = after-consulting i (station-at stations i) .1 })))
 
+  -- what is left of a consultation that comes to this
   abbrev pub consult-finished : Numbers → List (Station V) → List ℕ → Result (Plan V) Refusal → After V Bool
   consult-finished run stations bytes (Err e) = after run stations bytes (Err e)
   consult-finished run stations bytes (Ok p) = record {

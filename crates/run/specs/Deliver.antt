@@ -30,6 +30,7 @@ use Rattle.station.specs.declared.step.Outcome.the-variants as outcome
 use Rattle.run.specs.declared.refusal.Refusal.the-variants as refusal
 
 module _ {V : Type 0} where
+  -- a step with the record that it leaves, or why there is none
   abbrev pub paired : Station V → Result (Step V) Refused → Result (Station V × Step V) Refusal
   paired s (Ok x) = Ok (s, x)
   paired s (Err e) = Err (of-step e)
@@ -47,6 +48,7 @@ module _ {V : Type 0} where
       next (admitted run (run .waiting - 1) (p .0) (p .1)) (λ _.
       Ok (record { to = head m .receiver; station = p .0; step = p .1 })))))
 
+  -- what the delivery from place k comes to
   unfoldable pub planned : Ghosts V → Numbers → List (Station V) → List ℕ → ℕ → Result (Plan V) Refusal
   planned of run stations bytes k =
       refusing
@@ -59,6 +61,7 @@ abbrev pub emptied : Numbers → Numbers
 emptied run = record { n = run .n; places = run .places; waiting = run .waiting - 1; sent = run .sent; delivered = run .delivered + 1; lost = run .lost }
 
 module _ {V : Type 0} (of : Ghosts V) where
+  -- what is left of a delivery that comes to this
   abbrev pub finished : Numbers → List (Station V) → List ℕ → ℕ → Result (Plan V) Refusal → After V Outcome
   finished run stations bytes k (Err e) = record { run = run; stations = stations; bytes = bytes; answer = Err e }
   finished run stations bytes k (Ok p) = record {

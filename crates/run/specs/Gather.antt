@@ -56,6 +56,7 @@ module _ {V : Type 0} where
   abbrev pub all-formed : ℕ → List (Station V) → Bool
   all-formed n = all-from (formed n) 0
 
+  -- station i has proposed
   abbrev pub proposed : ℕ → Station V → Bool
   proposed i s = isSome (s .estimate)
 
@@ -96,6 +97,7 @@ module _ {V : Type 0} (of : Ghosts V) where
       (late (started (station-at stations 0) .1 .sent), refusal.Stamp) ∷ [])
       (Ok (started (station-at stations 0) .1))
 
+  -- what is left of a start that comes to this
   abbrev pub start-finished : Numbers → Result (Step V) Refusal → Numbers × Result (Unit {0}) Refusal
   start-finished run (Ok step) = (posted run (step .sent), Ok tt)
   start-finished run (Err e) = (run, Err e)

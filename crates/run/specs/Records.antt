@@ -1,40 +1,25 @@
 -- The records that a call touches.
 use Prim.Native.Nat.{ℕ}
-use mathlib.Core.Bool.{Bool, false, not, _||_}
+use mathlib.Core.Bool.{Bool, not, _||_}
 use mathlib.Core.List.{List, [], _∷_}
 use lib.Dec.{leb}
 use lib.ListN.{length, getD}
 use Rattle.run.specs.Numbers.{Numbers, tables-fit}
 use Rattle.run.specs.Refusals.{refusing}
 use Rattle.run.specs.declared.refusal.Refusal.{Refusal}
-use Rattle.station.specs.Rule.{sound}
+use Rattle.station.specs.Rule.{fresh, sound}
 use Rattle.station.specs.declared.state.Station.{Station}
-use Rattle.std.specs.declared.option.Option.the-variants.{None}
 use Rattle.std.specs.declared.result.Result.{Result}
 use Rattle.std.specs.declared.result.Result.the-variants.{Ok}
 use Rattle.value.specs.declared.Value.{Ghosts}
-use Rattle.station.specs.declared.state.Phase.the-variants as phase
 use Rattle.run.specs.declared.refusal.Refusal.the-variants as refusal
 
 module _ {V : Type 0} where
   -- what stands past the end of the table of stations
   abbrev pub blank : Station V
-  blank = record {
-    number = 0;
-    n = 0;
-    round = 0;
-    phase = phase.First;
-    estimate = None;
-    origin = 0;
-    mark = false;
-    heard = 0;
-    doubts = 0;
-    stamp = 0;
-    sent = 0;
-    decision = None;
-    crashed = false;
-  }
+  blank = fresh 0 0
 
+  -- the record of station i
   abbrev pub station-at : List (Station V) → ℕ → Station V
   station-at stations i = getD stations i blank
 

@@ -17,6 +17,7 @@ pub const MAX_ROUND: u16 = 60_000;
 
 pub const MAX_STAMP: u32 = 6_000_000;
 
+// What a message came to, by the number that a delivery answers.
 #[derive(Clone, Copy)]
 pub enum Outcome {
     Nothing = 0,
@@ -26,12 +27,14 @@ pub enum Outcome {
     Decided = 4,
 }
 
+// What a step gives out beside the record that it leaves.
 #[derive(Clone, Copy)]
 pub struct Step<V> {
     pub sent: Option<Broadcast<V>>,
     pub outcome: Outcome,
 }
 
+// Why a station takes no step, by the number of the refusal: the message is of a later round.
 #[derive(Clone, Copy)]
 pub enum Refused {
     Early = 8,
@@ -79,6 +82,7 @@ impl<V: Value> Step<V> {
 }
 
 impl<V: Value> Station<V> {
+    // The coordinator of the station's round.
     pub fn coordinator(&self) -> u8
         requires { ⌜ Sound (now self) ⌝ }
         ensures { λ r. ⌜ r ≡ coordinator (now (self .entry)) ⌝ }
@@ -120,6 +124,7 @@ impl<V: Value> Station<V> {
     pub fn is_formed(&self, number: u8, n: u8) -> bool
         ensures { λ r. ⌜ r ≡ formed n number (now (self .entry)) ⌝ }
     {
+        // what a station can have sent by the end of its round
         let sendable = u32::from(n) * (3 * u32::from(self.round) + 4);
         (self.number == number)
             & (self.n == n)
