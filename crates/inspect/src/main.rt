@@ -1,5 +1,7 @@
 // Reads messages in hexadecimal from standard input, one to a line, and prints what each says, or its fault.
 // A line begins with the kind of value of its run: `n` for numbers, `m` for graded maps.
+#![tactic(auto)]
+
 mod hex;
 mod shown;
 

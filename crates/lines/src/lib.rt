@@ -1,4 +1,6 @@
 // The lines of a schedule: from bytes to the calls that they write.
+#![tactic(auto)]
+
 mod line;
 mod number;
 mod syntax;

@@ -1,4 +1,6 @@
 // A run over graded maps with the exact failure detector: the first coordinator crashes, and the others settle on a map.
+#![tactic(auto)]
+
 use anyhow::anyhow;
 use detector::{ExactDetector, FailureDetector};
 use run::{Closed, Gathering, Refusal, Running};

@@ -1,4 +1,6 @@
 // Reference points: examples worked out by hand, which the definitions have to give.
+#![tactic(auto)]
+
 ghost use Rattle.std.specs.Prelude.{◌≡◌};
 ghost use Rattle.points.specs.Points.{Points, suspicion_bytes};
 

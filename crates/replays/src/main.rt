@@ -1,4 +1,6 @@
 // Prints the report of each schedule that the arguments name, one after the other.
+#![tactic(auto)]
+
 use schedule::report_of;
 use std::io::Write;
 use std::{env, fs};

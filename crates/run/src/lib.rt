@@ -1,4 +1,6 @@
 // A run over the tables of its caller.
+#![tactic(auto)]
+
 mod close;
 mod closed;
 mod consult;

@@ -1,4 +1,6 @@
 // One station of a consensus run, and the step by which it takes a message.
+#![tactic(auto)]
+
 mod broadcast;
 mod state;
 mod step;

@@ -1,6 +1,8 @@
 // Makes calls of a patient and of an exact detector, as standard input says, and prints who suspects whom.
 // A line is a word and two numbers: `new n patience`, `raise i j`, `clear i j`, `crash j 0`, `pass 0 0`, `show 0 0`.
 // Each answers the number of its refusal or 0, and how many pairs each detector has; `show` prints the patient one's.
+#![tactic(auto)]
+
 use anyhow::anyhow;
 use detector::{DetectorError, Event, ExactDetector, FailureDetector, PatientDetector, replay};
 use std::io;

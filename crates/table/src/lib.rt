@@ -1,4 +1,6 @@
 // A table of bytes that is cut into places of one size; the waiting messages fill the places from 0.
+#![tactic(auto)]
+
 ghost use Rattle.std.specs.Prelude.{◌≡◌, ◌+◌, ◌-◌, ◌*◌, ◌<◌, ◌≤◌, length, replicate};
 ghost use Rattle.table.specs.Places.{place, put, taken_out};
 

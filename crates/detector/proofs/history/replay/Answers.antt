@@ -9,8 +9,8 @@ use Rattle.detector.proofs.history.replay.Goals as goal
 pub loop-event-preserved : goal.loop-event-preserved
 loop-event-preserved g c =
     let M = means g.D.FailureDetector in
-    let more = performs_more M _ _ _ _ _ c.loop-event.invariant.1 c.make-call.ensures in
-    (omega arith, subst (λ (xs : List Event). Performs M c.args.detector.now xs c.make-call.new.detector) (sym (take_more _ _ _ c.loop-event-test.true)) more)
+    let more = performs_more M _ _ _ _ _ c.loop-event.invariant.1 c.make_call.ensures in
+    (omega arith, subst (λ (xs : List Event). Performs M c.args.detector.now xs c.make_call.new.detector) (sym (take_more _ _ _ c.loop-event-test.true)) more)
 
 pub returns : goal.returns
 returns g c =

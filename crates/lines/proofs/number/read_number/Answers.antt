@@ -27,8 +27,8 @@ returns-in-err-value c =
 pub loop-b-preserved : goal.loop-b-preserved
 loop-b-preserved c =
     let d = digit_from c.from.result c.in-Digit.digit c.in-Digit.ensures in
-    let step = sym (ap (λ x. extended c.loop-b.value x) (d.1 ∙ ap (λ x. x - 48) c.from.ensures)) ∙ sym c.in-ok-value.ensures in
-    sym (run_more c.loop-b.value c.in-ok-value.value c.args.text.now c.loop-b.b-index c.loop-b-test.true (ap is_digit (sym c.from.ensures) ∙ d.0) step) ∙ c.loop-b.invariant
+    let step = sym (ap (λ x. extended c.loop-b.value x) (d.1 ∙ ap (λ x. x - 48) c.from.ensures)) ∙ sym c.in_ok-value.ensures in
+    sym (run_more c.loop-b.value c.in_ok-value.value c.args.text.now c.loop-b.b-index c.loop-b-test.true (ap is_digit (sym c.from.ensures) ∙ d.0) step) ∙ c.loop-b.invariant
 
 pub returns : goal.returns
-returns c = sym (at_drop_all (run c.loop-b.value) c.args.text.now c.loop-b.b-index c.loop-b-test.false) ∙ c.loop-b.invariant ∙ run_fits c.args.text.now (omega (arith, eqb-false (length c.args.text.now) 0 (sym c.if-is-empty.ensures))) (omega arith)
+returns c = sym (at_drop_all (run c.loop-b.value) c.args.text.now c.loop-b.b-index c.loop-b-test.false) ∙ c.loop-b.invariant ∙ run_fits c.args.text.now (omega (arith, eqb-false (length c.args.text.now) 0 (sym c.if-is_empty.ensures))) (omega arith)

@@ -7,7 +7,7 @@ use Rattle.lines.proofs.text.split_line.Goals as goal
 
 pub loop-i-preserved : goal.loop-i-preserved
 loop-i-preserved c =
-    below_more _ _ c.loop-i.invariant (ap at_end (sym (take_rest c.args.text.now c.loop-i.i)) ∙ sym c.if-at-line-end.ensures)
+    below_more _ _ c.loop-i.invariant (ap at_end (sym (take_rest c.args.text.now c.loop-i.i)) ∙ sym c.if-at_line_end.ensures)
 
 pub returns-then-at-line-end : goal.returns-then-at-line-end
 returns-then-at-line-end c =
