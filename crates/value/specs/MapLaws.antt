@@ -2,7 +2,7 @@
 use Rattle.std.specs.Prelude.{◌≡◌, ℕ, ◌%◌, ◌<◌, Bool, true, false, cond, ◌&&◌, List, ◌++◌, length, ℤ, pos, negsuc, ◌≤ℤ◌, Ok, Err, Result, FitsSigned, ◌==◌, int_le, nat_lt, refl}
 use Rattle.std.proofs.Common.{arith, eqb-true, eq-eqb, ltb-true, to_z, of_z, sym, ap, ◌∙◌, subst}
 use Rattle.std.proofs.Math.Bridge.{le_prop}
-use denote.Struct.Props.{≤ℤ_prop}
+use Rattle.std.proofs.Props.{props}
 use Rattle.std.specs.Int.{w32}
 use Rattle.std.proofs.lemmas.Int.{ints, clamps, to_z-of_z, of_z-to_z}
 use Rattle.value.specs.declared.graded_map.GradedMap.{GradedMap}
@@ -21,7 +21,9 @@ map_same g h a b c =
     let Q : ℤ → Type 0 = λ z. (q : negsuc 999 ≤ℤ z) (r : z ≤ℤ pos 1000) → g ≡ make h.map z g.verso h.fits q r in
     let R : Bool → Type 0 = λ v. g ≡ make h.map h.grade v h.fits h.low h.high in
     let first : P h.map = subst P a (λ p. ap (λ x. make g.map g.grade g.verso x g.low g.high) (le_prop g.fits p)) in
-    let second : Q h.grade = subst Q b (λ q r. first h.fits ∙ ap (λ x. make h.map g.grade g.verso h.fits x g.high) (≤ℤ_prop g.low q) ∙ ap (λ x. make h.map g.grade g.verso h.fits q x) (≤ℤ_prop g.high r)) in
+    let low_prop : IsProp (negsuc 999 ≤ℤ g.grade) = hlevel props in
+    let high_prop : IsProp (g.grade ≤ℤ pos 1000) = hlevel props in
+    let second : Q h.grade = subst Q b (λ q r. first h.fits ∙ ap (λ x. make h.map g.grade g.verso h.fits x g.high) (low_prop g.low q) ∙ ap (λ x. make h.map g.grade g.verso h.fits q x) (high_prop g.high r)) in
     subst R c (second h.low h.high)
 
 in_range : (z : ℤ) → negsuc 999 ≤ℤ z → z ≤ℤ pos 1000 → (int_le (negsuc 999) z && int_le z (pos 1000)) ≡ true

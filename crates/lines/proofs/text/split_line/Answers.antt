@@ -9,9 +9,9 @@ pub loop-i-preserved : goal.loop-i-preserved
 loop-i-preserved c =
     below_more _ _ c.loop-i.invariant (ap at_end (sym (take_rest c.args.text.now c.loop-i.i)) ∙ sym c.if-at_line_end.ensures)
 
-pub returns-then-at-line-end : goal.returns-then-at-line-end
-returns-then-at-line-end c =
-    let here = ap at_end (sym (take_rest c.args.text.now c.loop-i.i)) ∙ sym c.if-at-line-end.ensures in
+pub returns-then-at_line_end : goal.returns-then-at_line_end
+returns-then-at_line_end c =
+    let here = ap at_end (sym (take_rest c.args.text.now c.loop-i.i)) ∙ sym c.if-at_line_end.ensures in
     let found = first_at c.args.text.now c.loop-i.i c.loop-i.invariant here in
     let two : c.loop-i.i + 2 ≡ suc (suc c.loop-i.i) = omega arith in
     simp (sub-zero, take_rest, two) (sym found)

@@ -14,8 +14,8 @@ returns c =
     let h = held c.args.desk in
     let suspects = (patient.ghosts).suspected h.detector in
     let told = a.ensures
-    ∙ ap (λ l. consulted number.ghosts suspects run l c.deref-mut-2.result.now c.args.i) c.deref-mut.ensures.value
-    ∙ ap (λ l. consulted number.ghosts suspects run h.stations l c.args.i) c.deref-mut-2.ensures.value in
-    leaves run (numbers a.new.self) c.args.desk a.new.stations a.new.bytes c.refusal-in.result a.result _
-    (search rules) (search rules) c.refusal-in.ensures told
+    ∙ ap (λ l. consulted number.ghosts suspects run l c.deref_mut-2.result.now c.args.i) c.deref_mut.ensures.value
+    ∙ ap (λ l. consulted number.ghosts suspects run h.stations l c.args.i) c.deref_mut-2.ensures.value in
+    leaves run (numbers a.new.self) c.args.desk a.new.stations a.new.bytes c.refusal_in.result a.result _
+    (search rules) (search rules) c.refusal_in.ensures told
     (consultation run h (consult_planned number.ghosts suspects run h.stations (length h.bytes) c.args.i))

@@ -12,8 +12,8 @@ returns c =
     let run = numbers c.args.running in
     let h = held c.args.desk in
     let told = a.ensures
-    ∙ ap (λ l. delivered number.ghosts run l c.deref-mut-2.result.now c.args.k) c.deref-mut.ensures.value
-    ∙ ap (λ l. delivered number.ghosts run h.stations l c.args.k) c.deref-mut-2.ensures.value in
-    leaves run (numbers a.new.self) c.args.desk a.new.stations a.new.bytes c.refusal-in.result a.result _
-    (search rules) (search rules) c.refusal-in.ensures told
+    ∙ ap (λ l. delivered number.ghosts run l c.deref_mut-2.result.now c.args.k) c.deref_mut.ensures.value
+    ∙ ap (λ l. delivered number.ghosts run h.stations l c.args.k) c.deref_mut-2.ensures.value in
+    leaves run (numbers a.new.self) c.args.desk a.new.stations a.new.bytes c.refusal_in.result a.result _
+    (search rules) (search rules) c.refusal_in.ensures told
     (delivery run h c.args.k (planned number.ghosts run h.stations h.bytes c.args.k))

@@ -13,20 +13,20 @@ pub returns-in-Ok-open : goal.returns-in-Ok-open
 returns-in-Ok-open c =
     let told = c.in-Ok-open.ensures in
     let new = c.in-Ok.ensures in
-    let blank = c.in-ok-bytes.ensures in
+    let blank = c.in_ok-bytes.ensures in
     let n = c.args.n in
     let p = c.args.patience in
     let g = c.in-Ok-open.gathering in
     let d = c.in-Ok.detector in
     let after = c.open.new in
-    let stations = c.in-ok-stations.stations in
-    let bytes = c.in-ok-bytes.bytes in
+    let stations = c.in_ok-stations.stations in
+    let bytes = c.in_ok-bytes.bytes in
     let wide = (number.ghosts).wide in
-    let rows : length c.deref-mut.result.now ≡ n = c.deref-mut.ensures.len ∙ c.in-ok-stations.ensures in
-    let long : length c.deref-mut-2.result.now ≡ 19200 = ap length c.deref-mut-2.ensures.value ∙ blank.long in
+    let rows : length c.deref_mut.result.now ≡ n = c.deref_mut.ensures.len ∙ c.in_ok-stations.ensures in
+    let long : length c.deref_mut-2.result.now ≡ 19200 = ap length c.deref_mut-2.ensures.value ∙ blank.long in
     let answer = told.answer
-    ∙ ap (λ k. opening wide n k (length c.deref-mut.result.now) (length c.deref-mut-2.result.now)) new.2.stations
-    ∙ ap (λ k. opening wide n n k (length c.deref-mut-2.result.now)) rows
+    ∙ ap (λ k. opening wide n k (length c.deref_mut.result.now) (length c.deref_mut-2.result.now)) new.2.stations
+    ∙ ap (λ k. opening wide n n k (length c.deref_mut-2.result.now)) rows
     ∙ ap (λ k. opening wide n n n k) long in
     lent (λ t. Opens n p None (gathering (gathered g) (record { stations = t; bytes = vec_items (with_items bytes after.bytes); detector = d }))) stations after.stations (search rules)
     (lent (λ t. Opens n p None (gathering (gathered g) (record { stations = after.stations; bytes = t; detector = d }))) bytes after.bytes (search rules)
@@ -35,7 +35,7 @@ returns-in-Ok-open c =
       reset = subst (λ k. Reset k after.stations) (many n g new.0 new.1 answer) told.stations;
       bytes = record {
         long = search rules;
-        empty = λ i. ap (λ l. get_or l i 0) told.bytes ∙ blank-cleared g c.deref-mut-2.result.now (λ j. ap (λ l. get_or l j 0) c.deref-mut-2.ensures.value ∙ blank.empty j) i;
+        empty = λ i. ap (λ l. get_or l i 0) told.bytes ∙ blank-cleared g c.deref_mut-2.result.now (λ j. ap (λ l. get_or l j 0) c.deref_mut-2.ensures.value ∙ blank.empty j) i;
       };
       detector = new.2;
     })))

@@ -15,5 +15,5 @@ returns c =
     let answer = a.ensures.answer
     ∙ ap (λ l. pass_answer number.ghosts run l (length c.deref-2.result.now)) c.deref.ensures.value
     ∙ ap (λ l. pass_answer number.ghosts run h.stations (length l)) c.deref-2.ensures.value in
-    subst (λ y. Passes run h y (running run (record { stations = h.stations; bytes = h.bytes; detector = a.new.detector }))) (sym c.refusal-in.ensures)
+    subst (λ y. Passes run h y (running run (record { stations = h.stations; bytes = h.bytes; detector = a.new.detector }))) (sym c.refusal_in.ensures)
     (passes run h a.new.detector a.result answer a.ensures.detector)

@@ -19,9 +19,9 @@ returns c =
     let i = c.args.i in
     let w = c.args.number in
     let answer = a.ensures.answer
-    ∙ ap (λ l. propose_answer number.ghosts run l (length c.deref.result.now) i) c.deref-mut.ensures.value
+    ∙ ap (λ l. propose_answer number.ghosts run l (length c.deref.result.now) i) c.deref_mut.ensures.value
     ∙ ap (λ l. propose_answer number.ghosts run h.stations (length l) i) c.deref.ensures.value in
-    let stations = a.ensures.stations ∙ ap (λ l. after_proposal l i w a.result) c.deref-mut.ensures.value in
-    subst (λ y. Proposes run h i w.value y (gathering run (record { stations = vec_items (with_items desk.stations a.new.stations); bytes = h.bytes; detector = h.detector }))) (sym c.refusal-in.ensures)
+    let stations = a.ensures.stations ∙ ap (λ l. after_proposal l i w a.result) c.deref_mut.ensures.value in
+    subst (λ y. Proposes run h i w.value y (gathering run (record { stations = vec_items (with_items desk.stations a.new.stations); bytes = h.bytes; detector = h.detector }))) (sym c.refusal_in.ensures)
     (lent (λ t. Proposes run h i w.value (refused a.result) (gathering run (record { stations = t; bytes = h.bytes; detector = h.detector }))) desk.stations a.new.stations (search rules)
     (proposes run h i w a.new.stations a.result answer stations))

@@ -25,12 +25,12 @@ returns-in-Ok c =
     let desk = c.args.desk in
     let h = held desk in
     let answer = told.answer
-    ∙ ap (λ l. start_result number.ghosts run l (length c.deref-mut-2.result.now)) c.deref-mut.ensures.value
-    ∙ ap (λ l. start_result number.ghosts run h.stations (length l)) c.deref-mut-2.ensures.value in
-    let begun = subst (λ (l : List (Station Number)). Begun l a.new.stations) c.deref-mut.ensures.value told.stations in
+    ∙ ap (λ l. start_result number.ghosts run l (length c.deref_mut-2.result.now)) c.deref_mut.ensures.value
+    ∙ ap (λ l. start_result number.ghosts run h.stations (length l)) c.deref_mut-2.ensures.value in
+    let begun = subst (λ (l : List (Station Number)). Begun l a.new.stations) c.deref_mut.ensures.value told.stations in
     let bytes = told.bytes
-    ∙ ap (λ l. posted_bytes number.ghosts l run 0 (started (station_at c.deref-mut.result.now 0)).1.sent) c.deref-mut-2.ensures.value
-    ∙ ap (λ l. posted_bytes number.ghosts h.bytes run 0 (started (station_at l 0)).1.sent) c.deref-mut.ensures.value in
+    ∙ ap (λ l. posted_bytes number.ghosts l run 0 (started (station_at c.deref_mut.result.now 0)).1.sent) c.deref_mut-2.ensures.value
+    ∙ ap (λ l. posted_bytes number.ghosts h.bytes run 0 (started (station_at l 0)).1.sent) c.deref_mut.ensures.value in
     lent (λ t. Starts run h None (running run' (record { stations = t; bytes = vec_items (with_items desk.bytes a.new.bytes); detector = h.detector }))) desk.stations a.new.stations (search rules)
     (lent (λ t. Starts run h None (running run' (record { stations = a.new.stations; bytes = t; detector = h.detector }))) desk.bytes a.new.bytes (search rules)
     (starts run run' h a.new.stations a.new.bytes answer (search rules) begun bytes))
@@ -45,8 +45,8 @@ returns-in-Err c =
     let desk = c.args.desk in
     let h = held desk in
     let answer = told.answer
-    ∙ ap (λ l. start_result number.ghosts run l (length c.deref-mut-2.result.now)) c.deref-mut.ensures.value
-    ∙ ap (λ l. start_result number.ghosts run h.stations (length l)) c.deref-mut-2.ensures.value in
+    ∙ ap (λ l. start_result number.ghosts run l (length c.deref_mut-2.result.now)) c.deref_mut.ensures.value
+    ∙ ap (λ l. start_result number.ghosts run h.stations (length l)) c.deref_mut-2.ensures.value in
     lent (λ t. Starts run h x (gathering run' (record { stations = t; bytes = vec_items (with_items desk.bytes a.new.bytes); detector = h.detector }))) desk.stations a.new.stations (search rules)
     (lent (λ t. Starts run h x (gathering run' (record { stations = a.new.stations; bytes = t; detector = h.detector }))) desk.bytes a.new.bytes (search rules)
-    (stays run run' h a.new.stations a.new.bytes c.in-Err.back.1 answer (told.stations ∙ c.deref-mut.ensures.value) (told.bytes ∙ c.deref-mut-2.ensures.value)))
+    (stays run run' h a.new.stations a.new.bytes c.in-Err.back.1 answer (told.stations ∙ c.deref_mut.ensures.value) (told.bytes ∙ c.deref_mut-2.ensures.value)))

@@ -9,8 +9,8 @@ use Rattle.table.proofs.places.append.Goals as goal
 pub loop-j-init : goal.loop-j-init
 loop-j-init g c = put_none c.args.bytes.now (c.args.waiting * size g.row.V-Value)
 
-pub write-place-requires : goal.write-place-requires
-write-place-requires g c =
+pub write_place-requires : goal.write_place-requires
+write_place-requires g c =
     let m : (c.args.waiting + c.from.result + 1) * size g.row.V-Value ≤ (c.args.waiting + c.args.n) * size g.row.V-Value = mul-le-mul_right (size g.row.V-Value) (omega arith) in
     (omega (arith, m, c.requires.0), ap all_within c.address-m.ensures ∙ c.requires.1 c.loop-j.j (omega arith))
 
@@ -25,7 +25,7 @@ loop-j-preserved g c =
     let e : c.from.result ≡ j = omega arith in
     let at : (w + c.from.result) * s ≡ w * s + length (messages f j) = ap (λ k. (w + k) * s) e ∙ add-mul w j s ∙ ap (λ k. w * s + k) (sym len) in
     let room : w * s ≤ (w + c.args.n) * s = mul-le-mul_right s (omega arith) in
-    c.write-place.ensures
+    c.write_place.ensures
     ∙ ap (λ x. put c.loop-j.bytes ((w + c.from.result) * s) (written g.row.V-Value x)) c.address-m.ensures
     ∙ ap (λ xs. put xs ((w + c.from.result) * s) (f j)) c.loop-j.invariant
     ∙ put-put d (w * s) ((w + c.from.result) * s) (messages f j) (f j) (omega (arith, room, c.requires.0)) at

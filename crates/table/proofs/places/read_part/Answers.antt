@@ -2,9 +2,9 @@ use Rattle.std.proofs.Common.{rules}
 use Rattle.table.specs.Messages.{understood}
 use Rattle.table.proofs.places.read_part.Goals as goal
 
-pub returns-in-err-m : goal.returns-in-err-m
+pub returns-in_err-m : goal.returns-in_err-m
 unfolding understood
-returns-in-err-m g c = search rules
+returns-in_err-m g c = search rules
 
 pub returns-in-Ok : goal.returns-in-Ok
 unfolding understood

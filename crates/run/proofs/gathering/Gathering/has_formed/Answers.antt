@@ -21,6 +21,6 @@ returns g c =
     let i = c.args.i in
     let xs = c.args.stations.now in
     let t : leb n i ≡ false = grind (arith, nat_tests) in
-    c.is-formed.ensures
+    c.is_formed.ensures
     ∙ ap (formed n i) (get_or_read xs i c.index-stations-i.result (omega arith) c.index-stations-i.is blank)
     ∙ sym (ap (λ b. b || formed n i (station_at xs i)) t)

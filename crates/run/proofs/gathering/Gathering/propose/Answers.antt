@@ -7,32 +7,32 @@ use Rattle.run.specs.Numbers.{gathered}
 use Rattle.run.proofs.Opening.{propose_below}
 use Rattle.run.proofs.gathering.Gathering.propose.Goals as goal
 
-pub returns-in-err-check-proposal : goal.returns-in-err-check-proposal
-returns-in-err-check-proposal g c =
-    let p = err_from_is_err_and c.from-residual.result c.from-residual.ensures.1 in
+pub returns-in_err-check_proposal : goal.returns-in_err-check_proposal
+returns-in_err-check_proposal g c =
+    let p = err_from_is_err_and c.from_residual.result c.from_residual.ensures.1 in
     record {
-      answer = rw (p.1, p.2) (sym c.in-err-check-proposal.was ∙ c.check-proposal.ensures);
+      answer = rw (p.1, p.2) (sym c.in_err-check_proposal.was ∙ c.check_proposal.ensures);
       stations = rw p.1;
     }
 
 pub offset-bounds-stations-i : goal.offset-bounds-stations-i
-offset-bounds-stations-i g c = let l = propose_below g.row.V-Value (gathered c.args.self.now) c.args.stations.now (length c.args.bytes.now) c.args.i (sym c.check-proposal.ensures ∙ c.in-ok-check-proposal.was) in search rules
+offset-bounds-stations-i g c = let l = propose_below g.row.V-Value (gathered c.args.self.now) c.args.stations.now (length c.args.bytes.now) c.args.i (sym c.check_proposal.ensures ∙ c.in_ok-check_proposal.was) in search rules
 
 pub bounds-stations-i : goal.bounds-stations-i
-bounds-stations-i g c = propose_below g.row.V-Value (gathered c.args.self.now) c.args.stations.now (length c.args.bytes.now) c.args.i (sym c.check-proposal.ensures ∙ c.in-ok-check-proposal.was)
+bounds-stations-i g c = propose_below g.row.V-Value (gathered c.args.self.now) c.args.stations.now (length c.args.bytes.now) c.args.i (sym c.check_proposal.ensures ∙ c.in_ok-check_proposal.was)
 
 pub offset-bounds-stations-i-2 : goal.offset-bounds-stations-i-2
-offset-bounds-stations-i-2 g c = let l = propose_below g.row.V-Value (gathered c.args.self.now) c.args.stations.now (length c.args.bytes.now) c.args.i (sym c.check-proposal.ensures ∙ c.in-ok-check-proposal.was) in search rules
+offset-bounds-stations-i-2 g c = let l = propose_below g.row.V-Value (gathered c.args.self.now) c.args.stations.now (length c.args.bytes.now) c.args.i (sym c.check_proposal.ensures ∙ c.in_ok-check_proposal.was) in search rules
 
 pub bounds-stations-i-2 : goal.bounds-stations-i-2
-bounds-stations-i-2 g c = propose_below g.row.V-Value (gathered c.args.self.now) c.args.stations.now (length c.args.bytes.now) c.args.i (sym c.check-proposal.ensures ∙ c.in-ok-check-proposal.was)
+bounds-stations-i-2 g c = propose_below g.row.V-Value (gathered c.args.self.now) c.args.stations.now (length c.args.bytes.now) c.args.i (sym c.check_proposal.ensures ∙ c.in_ok-check_proposal.was)
 
 pub returns : goal.returns
 returns g c =
     let ss = c.args.stations.now in
-    let l = propose_below g.row.V-Value (gathered c.args.self.now) c.args.stations.now (length c.args.bytes.now) c.args.i (sym c.check-proposal.ensures ∙ c.in-ok-check-proposal.was) in
+    let l = propose_below g.row.V-Value (gathered c.args.self.now) c.args.stations.now (length c.args.bytes.now) c.args.i (sym c.check_proposal.ensures ∙ c.in_ok-check_proposal.was) in
     let s = get_or_read ss c.args.i c.index-stations-i.result l c.index-stations-i.is blank in
     record {
-      answer = sym c.in-ok-check-proposal.was ∙ c.check-proposal.ensures;
+      answer = sym c.in_ok-check_proposal.was ∙ c.check_proposal.ensures;
       stations = ap (set ss c.args.i) (c.proposing.ensures ∙ ap (λ x. proposing x c.args.value) s);
     }
