@@ -5,5 +5,5 @@ use Rattle.table.proofs.places.write_part.Goals as goal
 
 pub returns : goal.returns
 returns g c =
-    let z : c.fill.new.self ≡ replicate (size g.row.V-Value) 0 = c.fill.ensures.after (λ y e. search rules) ∙ ap (λ k. replicate k 0) c.requires.0 in
-    c.write.ensures.left ∙ written_is g.row.V-Value c.fill.new.self c.args.m.now c.write.result z c.write.ensures.answer c.requires.1
+    let z : c.fill.new.self ≡ replicate (size g.V.Value) 0 = c.fill.ensures.after (λ y e. search rules) ∙ ap (λ k. replicate k 0) c.requires.0 in
+    c.write.ensures.left ∙ written_is g.V.Value c.fill.new.self c.args.m.now c.write.result z c.write.ensures.answer c.requires.1

@@ -12,7 +12,7 @@ unfolding propose_answer
 returns-then-not-are_of g c = rw (sym c.if-not-are_of.ensures)
 
 pub has_formed-requires : goal.has_formed-requires
-has_formed-requires g c = (tables_true g.row.V-Value.wide (gathered c.args.self.now) _ _ (sym c.if-not-are_of.ensures)).0
+has_formed-requires g c = (tables_true g.V.Value.wide (gathered c.args.self.now) _ _ (sym c.if-not-are_of.ensures)).0
 
 pub returns-then-not-has_formed : goal.returns-then-not-has_formed
 unfolding propose_answer
@@ -28,7 +28,7 @@ pub returns-then-is_some : goal.returns-then-is_some
 unfolding propose_answer
 returns-then-is_some g c =
     let ss = c.args.stations.now in
-    let t = tables_true g.row.V-Value.wide (gathered c.args.self.now) _ _ (sym c.if-not-are_of.ensures) in
+    let t = tables_true g.V.Value.wide (gathered c.args.self.now) _ _ (sym c.if-not-are_of.ensures) in
     let l : leb c.args.self.now.n c.args.i ≡ false = grind (arith, nat_tests) in
     let s = get_or_read ss c.args.i c.index-stations-i.result (omega (arith, t.0)) c.index-stations-i.is blank in
     let d : is_some (station_at ss c.args.i).estimate ≡ true = ap (λ x. is_some x.estimate) (sym s) ∙ sym c.if-is_some.ensures in
@@ -38,7 +38,7 @@ pub returns : goal.returns
 unfolding propose_answer
 returns g c =
     let ss = c.args.stations.now in
-    let t = tables_true g.row.V-Value.wide (gathered c.args.self.now) _ _ (sym c.if-not-are_of.ensures) in
+    let t = tables_true g.V.Value.wide (gathered c.args.self.now) _ _ (sym c.if-not-are_of.ensures) in
     let l : leb c.args.self.now.n c.args.i ≡ false = grind (arith, nat_tests) in
     let s = get_or_read ss c.args.i c.index-stations-i.result (omega (arith, t.0)) c.index-stations-i.is blank in
     let d : is_some (station_at ss c.args.i).estimate ≡ false = ap (λ x. is_some x.estimate) (sym s) ∙ sym c.if-is_some.ensures in

@@ -8,17 +8,17 @@ pub returns-in_err-n : goal.returns-in_err-n
 returns-in_err-n g c =
     let p = err_from_is_err_and c.from_residual.result c.from_residual.ensures.1 in
     record {
-      answer = rw (p.1, p.2) (sym c.in_err-n.was ∙ c.check_opening.ensures ∙ ap (λ k. opening g.row.V-Value.wide c.args.n k (length c.args.stations.now) (length c.args.bytes.now)) c.stations.ensures);
+      answer = rw (p.1, p.2) (sym c.in_err-n.was ∙ c.check_opening.ensures ∙ ap (λ k. opening g.V.Value.wide c.args.n k (length c.args.stations.now) (length c.args.bytes.now)) c.stations.ensures);
       stations = rw p.1 refl;
       bytes = rw p.1;
     }
 
 pub reset-requires : goal.reset-requires
-reset-requires g c = let o = opens g.row.V-Value.wide c.args.n c.stations.result (length c.args.stations.now) (length c.args.bytes.now) (c.in_ok-n.n, c.in_ok-n.places) (sym c.check_opening.ensures ∙ c.in_ok-n.was) in o.table
+reset-requires g c = let o = opens g.V.Value.wide c.args.n c.stations.result (length c.args.stations.now) (length c.args.bytes.now) (c.in_ok-n.n, c.in_ok-n.places) (sym c.check_opening.ensures ∙ c.in_ok-n.was) in o.table
 
 pub overflow-mul-from : goal.overflow-mul-from
 overflow-mul-from g c =
-    let o = opens g.row.V-Value.wide c.args.n c.stations.result (length c.args.stations.now) (length c.args.bytes.now) (c.in_ok-n.n, c.in_ok-n.places) (sym c.check_opening.ensures ∙ c.in_ok-n.was) in
+    let o = opens g.V.Value.wide c.args.n c.stations.result (length c.args.stations.now) (length c.args.bytes.now) (c.in_ok-n.n, c.in_ok-n.places) (sym c.check_opening.ensures ∙ c.in_ok-n.was) in
     let few : c.from.result ≤ 4096 = omega (arith, o.bounded) in
     let narrow : c.place_size.result ≤ 88 = omega (arith, g.met.V.Value.narrow.1) in
     let p : c.from.result * c.place_size.result ≤ 4096 * 88 = mul-le-mul few narrow in
@@ -26,9 +26,9 @@ overflow-mul-from g c =
 
 pub clear-requires : goal.clear-requires
 clear-requires g c =
-    let o = opens g.row.V-Value.wide c.args.n c.stations.result (length c.args.stations.now) (length c.args.bytes.now) (c.in_ok-n.n, c.in_ok-n.places) (sym c.check_opening.ensures ∙ c.in_ok-n.was) in
-    let e : c.from.result * c.place_size.result ≡ c.in_ok-n.places * (24 + g.row.V-Value.wide) = cc in
+    let o = opens g.V.Value.wide c.args.n c.stations.result (length c.args.stations.now) (length c.args.bytes.now) (c.in_ok-n.n, c.in_ok-n.places) (sym c.check_opening.ensures ∙ c.in_ok-n.was) in
+    let e : c.from.result * c.place_size.result ≡ c.in_ok-n.places * (24 + g.V.Value.wide) = cc in
     omega (arith, o.room, e)
 
 pub invariant_of-result : goal.invariant_of-result
-invariant_of-result g c = let o = opens g.row.V-Value.wide c.args.n c.stations.result (length c.args.stations.now) (length c.args.bytes.now) (c.in_ok-n.n, c.in_ok-n.places) (sym c.check_opening.ensures ∙ c.in_ok-n.was) in (o.few, (o.many, (o.enough, (o.bounded, tt))))
+invariant_of-result g c = let o = opens g.V.Value.wide c.args.n c.stations.result (length c.args.stations.now) (length c.args.bytes.now) (c.in_ok-n.n, c.in_ok-n.places) (sym c.check_opening.ensures ∙ c.in_ok-n.was) in (o.few, (o.many, (o.enough, (o.bounded, tt))))

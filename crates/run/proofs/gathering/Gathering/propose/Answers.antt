@@ -16,21 +16,21 @@ returns-in_err-check_proposal g c =
     }
 
 pub offset-bounds-stations-i : goal.offset-bounds-stations-i
-offset-bounds-stations-i g c = let l = propose_below g.row.V-Value (gathered c.args.self.now) c.args.stations.now (length c.args.bytes.now) c.args.i (sym c.check_proposal.ensures ∙ c.in_ok-check_proposal.was) in search rules
+offset-bounds-stations-i g c = let l = propose_below g.V.Value (gathered c.args.self.now) c.args.stations.now (length c.args.bytes.now) c.args.i (sym c.check_proposal.ensures ∙ c.in_ok-check_proposal.was) in search rules
 
 pub bounds-stations-i : goal.bounds-stations-i
-bounds-stations-i g c = propose_below g.row.V-Value (gathered c.args.self.now) c.args.stations.now (length c.args.bytes.now) c.args.i (sym c.check_proposal.ensures ∙ c.in_ok-check_proposal.was)
+bounds-stations-i g c = propose_below g.V.Value (gathered c.args.self.now) c.args.stations.now (length c.args.bytes.now) c.args.i (sym c.check_proposal.ensures ∙ c.in_ok-check_proposal.was)
 
 pub offset-bounds-stations-i-2 : goal.offset-bounds-stations-i-2
-offset-bounds-stations-i-2 g c = let l = propose_below g.row.V-Value (gathered c.args.self.now) c.args.stations.now (length c.args.bytes.now) c.args.i (sym c.check_proposal.ensures ∙ c.in_ok-check_proposal.was) in search rules
+offset-bounds-stations-i-2 g c = let l = propose_below g.V.Value (gathered c.args.self.now) c.args.stations.now (length c.args.bytes.now) c.args.i (sym c.check_proposal.ensures ∙ c.in_ok-check_proposal.was) in search rules
 
 pub bounds-stations-i-2 : goal.bounds-stations-i-2
-bounds-stations-i-2 g c = propose_below g.row.V-Value (gathered c.args.self.now) c.args.stations.now (length c.args.bytes.now) c.args.i (sym c.check_proposal.ensures ∙ c.in_ok-check_proposal.was)
+bounds-stations-i-2 g c = propose_below g.V.Value (gathered c.args.self.now) c.args.stations.now (length c.args.bytes.now) c.args.i (sym c.check_proposal.ensures ∙ c.in_ok-check_proposal.was)
 
 pub returns : goal.returns
 returns g c =
     let ss = c.args.stations.now in
-    let l = propose_below g.row.V-Value (gathered c.args.self.now) c.args.stations.now (length c.args.bytes.now) c.args.i (sym c.check_proposal.ensures ∙ c.in_ok-check_proposal.was) in
+    let l = propose_below g.V.Value (gathered c.args.self.now) c.args.stations.now (length c.args.bytes.now) c.args.i (sym c.check_proposal.ensures ∙ c.in_ok-check_proposal.was) in
     let s = get_or_read ss c.args.i c.index-stations-i.result l c.index-stations-i.is blank in
     record {
       answer = sym c.in_ok-check_proposal.was ∙ c.check_proposal.ensures;

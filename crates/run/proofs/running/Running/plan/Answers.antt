@@ -20,8 +20,8 @@ returns-then-k-from g c =
 
 pub read_place-requires : goal.read_place-requires
 read_place-requires g c =
-    let t = tables_true g.row.V-Value.wide (numbers c.args.self.now) _ _ (sym c.if-not-has_tables.ensures) in
-    let h : (c.args.k + 1) * size g.row.V-Value ≤ c.args.self.now.places * size g.row.V-Value = mul-le-mul_right (size g.row.V-Value) (omega arith) in
+    let t = tables_true g.V.Value.wide (numbers c.args.self.now) _ _ (sym c.if-not-has_tables.ensures) in
+    let h : (c.args.k + 1) * size g.V.Value ≤ c.args.self.now.places * size g.V.Value = mul-le-mul_right (size g.V.Value) (omega arith) in
     omega (arith, h, t.1)
 
 pub returns-in_err-m : goal.returns-in_err-m
@@ -33,8 +33,8 @@ returns-in_err-m g c =
 
 pub plan_for-requires : goal.plan_for-requires
 plan_for-requires g c =
-    let t = tables_true g.row.V-Value.wide (numbers c.args.self.now) _ _ (sym c.if-not-has_tables.ensures) in
-    (t.0, (omega arith, understood_ranges g.row.V-Value _ c.in_ok-m.m (sym c.read_place.ensures ∙ c.in_ok-m.was)))
+    let t = tables_true g.V.Value.wide (numbers c.args.self.now) _ _ (sym c.if-not-has_tables.ensures) in
+    (t.0, (omega arith, understood_ranges g.V.Value _ c.in_ok-m.m (sym c.read_place.ensures ∙ c.in_ok-m.was)))
 
 pub returns : goal.returns
 unfolding planned
