@@ -16,8 +16,8 @@ returns-in_err-n g c =
 pub reset-requires : goal.reset-requires
 reset-requires g c = let o = opens g.V.Value.wide c.args.n c.stations.result (length c.args.stations.now) (length c.args.bytes.now) (c.in_ok-n.n, c.in_ok-n.places) (sym c.check_opening.ensures ∙ c.in_ok-n.was) in o.table
 
-pub overflow-mul-from : goal.overflow-mul-from
-overflow-mul-from g c =
+pub overflow_mul-from : goal.overflow_mul-from
+overflow_mul-from g c =
     let o = opens g.V.Value.wide c.args.n c.stations.result (length c.args.stations.now) (length c.args.bytes.now) (c.in_ok-n.n, c.in_ok-n.places) (sym c.check_opening.ensures ∙ c.in_ok-n.was) in
     let few : c.from.result ≤ 4096 = omega (arith, o.bounded) in
     let narrow : c.place_size.result ≤ 88 = omega (arith, g.met.V.Value.narrow.1) in

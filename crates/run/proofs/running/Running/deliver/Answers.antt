@@ -25,8 +25,8 @@ remove-requires g c =
     let P : ℕ → Type 0 = λ s. run.places * s ≤ length c.args.bytes.now in
     (h.waits, subst P (sym c.place_size.ensures) h.within)
 
-pub overflow-cast-to : goal.overflow-cast-to
-overflow-cast-to g c =
+pub overflow_cast-to : goal.overflow_cast-to
+overflow_cast-to g c =
     let run = c.args.self.now in
     let h = planned_ready g.V.Value (numbers run) run.few run.many c.args.stations.now c.args.bytes.now c.args.k c.in_ok-to.field-0 (sym c.plan.ensures ∙ c.in_ok-to.was) in
     let l : c.in_ok-to.field-0.to < 32 = omega (arith, h.possible.to, run.many) in

@@ -12,7 +12,7 @@ append-requires g c =
     let m : (c.from.result + run.n) * size g.V.Value ≤ run.places * size g.V.Value = mul-le-mul_right (size g.V.Value) (omega (arith, h.0)) in
     (omega (arith, m, h.1), h.3)
 
-pub overflow-add-self-in-Some : goal.overflow-add-self-in-Some
-overflow-add-self-in-Some g c =
+pub overflow_add-self-in-Some : goal.overflow_add-self-in-Some
+overflow_add-self-in-Some g c =
     let s = limit_small c.args.self.now.n (omega arith) in
     search rules
