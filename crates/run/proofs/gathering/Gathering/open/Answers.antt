@@ -31,4 +31,4 @@ clear-requires g c =
     omega (arith, o.room, e)
 
 pub invariant_of-result : goal.invariant_of-result
-invariant_of-result g c = let o = opens g.V.Value.wide c.args.n c.stations.result (length c.args.stations.now) (length c.args.bytes.now) (c.in_ok-n.n, c.in_ok-n.places) (sym c.check_opening.ensures ∙ c.in_ok-n.was) in (o.few, (o.many, (o.enough, (o.bounded, tt))))
+invariant_of-result g c = let o = opens g.V.Value.wide c.args.n c.stations.result (length c.args.stations.now) (length c.args.bytes.now) (c.in_ok-n.n, c.in_ok-n.places) (sym c.check_opening.ensures ∙ c.in_ok-n.was) in record { few = o.few; many = o.many; enough = o.enough; bounded = o.bounded }

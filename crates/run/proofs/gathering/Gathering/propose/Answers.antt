@@ -15,14 +15,14 @@ returns-in_err-check_proposal g c =
       stations = rw p.1;
     }
 
-pub offset-bounds-stations-i : goal.offset-bounds-stations-i
-offset-bounds-stations-i g c = let l = propose_below g.V.Value (gathered c.args.self.now) c.args.stations.now (length c.args.bytes.now) c.args.i (sym c.check_proposal.ensures ∙ c.in_ok-check_proposal.was) in search rules
+pub offset_bounds-stations-i : goal.offset_bounds-stations-i
+offset_bounds-stations-i g c = let l = propose_below g.V.Value (gathered c.args.self.now) c.args.stations.now (length c.args.bytes.now) c.args.i (sym c.check_proposal.ensures ∙ c.in_ok-check_proposal.was) in search rules
 
 pub bounds-stations-i : goal.bounds-stations-i
 bounds-stations-i g c = propose_below g.V.Value (gathered c.args.self.now) c.args.stations.now (length c.args.bytes.now) c.args.i (sym c.check_proposal.ensures ∙ c.in_ok-check_proposal.was)
 
-pub offset-bounds-stations-i-2 : goal.offset-bounds-stations-i-2
-offset-bounds-stations-i-2 g c = let l = propose_below g.V.Value (gathered c.args.self.now) c.args.stations.now (length c.args.bytes.now) c.args.i (sym c.check_proposal.ensures ∙ c.in_ok-check_proposal.was) in search rules
+pub offset_bounds-stations-i-2 : goal.offset_bounds-stations-i-2
+offset_bounds-stations-i-2 g c = let l = propose_below g.V.Value (gathered c.args.self.now) c.args.stations.now (length c.args.bytes.now) c.args.i (sym c.check_proposal.ensures ∙ c.in_ok-check_proposal.was) in search rules
 
 pub bounds-stations-i-2 : goal.bounds-stations-i-2
 bounds-stations-i-2 g c = propose_below g.V.Value (gathered c.args.self.now) c.args.stations.now (length c.args.bytes.now) c.args.i (sym c.check_proposal.ensures ∙ c.in_ok-check_proposal.was)

@@ -5,8 +5,8 @@ use Rattle.run.specs.Numbers.{Numbers, numbers}
 use Rattle.run.proofs.Possible.{planned_ready}
 use Rattle.run.proofs.running.Running.deliver.Goals as goal
 
-pub offset-bounds-stations-to : goal.offset-bounds-stations-to
-offset-bounds-stations-to g c =
+pub offset_bounds-stations-to : goal.offset_bounds-stations-to
+offset_bounds-stations-to g c =
     let run = c.args.self.now in
     let h = planned_ready g.V.Value (numbers run) run.few run.many c.args.stations.now c.args.bytes.now c.args.k c.in_ok-to.field-0 (sym c.plan.ensures ∙ c.in_ok-to.was) in
     let l : c.in_ok-to.field-0.to < length c.args.stations.now = omega (arith, h.stations, h.possible.to) in
