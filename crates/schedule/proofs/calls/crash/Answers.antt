@@ -12,7 +12,7 @@ use Rattle.schedule.proofs.calls.crash.Goals as goal
 
 pub returns : goal.returns
 returns c =
-    let a = c.crash_answer in
+    let a = c.crash-answer in
     let run = numbers c.args.running in
     let desk = c.args.desk in
     let h = held desk in

@@ -9,7 +9,7 @@ use Rattle.schedule.proofs.calls.pass.Goals as goal
 
 pub returns : goal.returns
 returns c =
-    let a = c.pass_answer in
+    let a = c.pass-answer in
     let run = numbers c.args.running in
     let h = held c.args.desk in
     let answer = a.ensures.answer

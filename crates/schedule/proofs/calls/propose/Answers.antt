@@ -12,7 +12,7 @@ use Rattle.schedule.proofs.calls.propose.Goals as goal
 
 pub returns : goal.returns
 returns c =
-    let a = c.propose_answer in
+    let a = c.propose-answer in
     let run = gathered c.args.gathering in
     let desk = c.args.desk in
     let h = held desk in

@@ -5,4 +5,4 @@ use Rattle.schedule.proofs.Openings.{blank_new}
 use Rattle.schedule.proofs.desk.blank_bytes.Goals as goal
 
 pub returns : goal.returns
-returns c = IfOk-weaker c.vec.result _ (λ v. Blank c.args.n (vec_items v)) (λ v h. blank_new c.args.n (vec_items v) (h (search rules))) c.vec.ensures.exact
+returns c = IfOk-weaker c.vec.result _ (λ v. Blank c.args.n (vec_items v)) (λ v h. blank_new c.args.n (vec_items v) (h (search rules))) c.vec.ensures.items_if_clones_equal
