@@ -9,7 +9,7 @@ use Rattle.message.specs.declared.types.Kind.TheVariants as kind
 use Rattle.message.specs.declared.types.Message.{Message}
 use Rattle.message.specs.declared.types.Message.TheVariants as message
 use Rattle.message.specs.declared.types.MessageFault.{MessageFault}
-use Rattle.message.specs.Format.{united, ranged, kinded, headed, within, valued, bodied, decoded, opened}
+use Rattle.message.specs.Format.{united, ranged, kinded, headed, valued, bodied, decoded, opened}
 use Rattle.message.proofs.Trips.{before}
 use Rattle.table.specs.Messages.{reopened, understood}
 use Rattle.run.specs.Incoming.{Ranges, head}

@@ -4,7 +4,7 @@ use lib.ListN.{length-replicate, get_or-replicate}
 use Rattle.std.proofs.lemmas.Bool.{cases_lt, le-ltb, eq-eqb}
 use Rattle.std.proofs.lemmas.List.{get_or_append_left, get_or-append_right, get_or_past}
 use Rattle.value.specs.contracts.kinds.NumberValue.TheImpl as number
-use Rattle.run.specs.Gather.{cleared, opened, opening}
+use Rattle.run.specs.Gather.{cleared, opening}
 use Rattle.run.specs.Numbers.{gathered}
 use Rattle.run.specs.declared.gathering.Gathering.{Gathering}
 use Rattle.run.specs.declared.refusal.Refusal.{Refusal}
