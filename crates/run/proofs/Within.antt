@@ -1,5 +1,5 @@
 -- A message that was read is within its ranges.
-use Rattle.std.proofs.Common.{◌≡◌, ℕ, ◌≤◌, Bool, true, false, cond, ◌&&◌, leb, List, Ok, Err, Result, refl, ap, ◌∙◌, subst, arith, leb-true}
+use Rattle.std.proofs.Common.{◌≡◌, ℕ, ◌≤◌, ◌&&◌, leb, List, Ok, Err, Result, ap, ◌∙◌, subst, arith, leb-true}
 use Rattle.std.proofs.lemmas.Bool.{and_parts}
 use Rattle.value.specs.declared.Value.{Ghosts}
 use Rattle.value.specs.declared.fault.ValueFault.{ValueFault}
@@ -8,40 +8,31 @@ use Rattle.message.specs.declared.types.Kind.{Kind}
 use Rattle.message.specs.declared.types.Kind.TheVariants as kind
 use Rattle.message.specs.declared.types.Message.{Message}
 use Rattle.message.specs.declared.types.Message.TheVariants as message
-use Rattle.message.specs.declared.types.MessageFault.{MessageFault}
-use Rattle.message.specs.Format.{united, ranged, kinded, headed, valued, bodied, decoded, opened}
-use Rattle.message.proofs.Trips.{before}
+use Rattle.message.specs.Format.{ranged, headed, head_within, within, valued, bodied, decoded, opened}
+use Rattle.message.proofs.Ranges.{headed-within}
+use Rattle.message.proofs.Trips.{before, tested}
 use Rattle.table.specs.Messages.{reopened, understood}
 use Rattle.run.specs.Incoming.{Ranges, head}
 
-passed : {X : Type 0} (b : Bool) (x y : X) (d : MessageFault) → cond b (Ok x) (Err d) ≡ Ok y → (b ≡ true) × (x ≡ y)
-passed true x y d e = (refl, cc)
-passed false x y d e = let k : ◌≡◌ {A = ℕ} 0 1 = cc in absurd (omega arith)
-
-pub ranged_range : (i low high : ℕ) (s : List ℕ) (p : ℕ × List ℕ) → ranged i low high s ≡ Ok p → (low ≤ p.0) × (p.0 ≤ high)
-ranged_range i low high s p e =
-    let a = before (united i s) _ p e in
-    let t = passed (leb low a.0.0 && leb a.0.0 high) a.0 p _ a.2 in
+unit_range : (i low high n : ℕ) → within i low high n ≡ Ok tt → (low ≤ n) × (n ≤ high)
+unit_range i low high n e =
+    let t = tested (leb low n && leb n high) tt tt _ e in
     let both = and_parts _ _ t.0 in
-    let P : ℕ × List ℕ → Type 0 = λ q. (low ≤ q.0) × (q.0 ≤ high) in
-    subst P t.1 (leb-true _ _ both.0, leb-true _ _ both.1)
+    (leb-true _ _ both.0, leb-true _ _ both.1)
 
-headed_ranges : (s : List ℕ) (p : Kind × Head × List ℕ) → headed s ≡ Ok p → Ranges p.1
-headed_ranges s p e =
-    let k = before (kinded s) _ p e in
-    let a = before (ranged 4 0 31 k.0.1) _ p k.2 in
-    let b = before (ranged 8 0 31 a.0.1) _ p a.2 in
-    let c = before (ranged 12 0 60000 b.0.1) _ p b.2 in
-    let d = before (ranged 16 1 6000000 c.0.1) _ p c.2 in
-    let h : Head = record { sender = a.0.0; receiver = b.0.0; round = c.0.0; stamp = d.0.0 } in
-    let got : Kind × Head × List ℕ = (k.0.0, h, d.0.1) in
-    let same : got ≡ p = cc in
-    let P : Kind × Head × List ℕ → Type 0 = λ q. Ranges q.1 in
-    let ra = ranged_range 4 0 31 k.0.1 a.0 a.1 in
-    let rb = ranged_range 8 0 31 a.0.1 b.0 b.1 in
-    let rc = ranged_range 12 0 60000 b.0.1 c.0 c.1 in
-    let rd = ranged_range 16 1 6000000 c.0.1 d.0 d.1 in
-    subst P same (record { sender = ra.1; receiver = rb.1; round = rc.1; low = rd.0; stamp = rd.1 })
+head_ranges : (h : Head) → head_within h ≡ Ok tt → Ranges h
+head_ranges h e =
+    let a = before (within 4 0 31 h.sender) _ tt e in
+    let b = before (within 8 0 31 h.receiver) _ tt a.2 in
+    let c = before (within 12 0 60000 h.round) _ tt b.2 in
+    let d = unit_range 16 1 6000000 h.stamp c.2 in
+    record {
+      sender = (unit_range 4 0 31 h.sender a.1).1;
+      receiver = (unit_range 8 0 31 h.receiver b.1).1;
+      round = (unit_range 12 0 60000 h.round c.1).1;
+      low = d.0;
+      stamp = d.1;
+    }
 
 module _ {V : Type 0} (of : Ghosts V) where
   bodied-head : (k : Kind) (h : Head) (s : List ℕ) (m : Message (List ℕ)) → bodied of k h s ≡ Ok m → h ≡ head m
@@ -87,4 +78,4 @@ module _ {V : Type 0} (of : Ghosts V) where
       let b = before (decoded of s) _ m e in
       let h = before (headed s) _ b.0 b.1 in
       let same = bodied-head h.0.0 h.0.1 h.0.2 b.0 h.2 ∙ opened-head b.0 m (reopened_ok (opened of b.0) m b.2) in
-      subst Ranges same (headed_ranges s h.0 h.1)
+      subst Ranges same (head_ranges h.0.1 (headed-within s h.0 h.1))

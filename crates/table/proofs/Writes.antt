@@ -1,5 +1,5 @@
 -- What a place holds after a message was written there.
-use Rattle.std.proofs.Common.{◌≡◌, ℕ, ◌+◌, ◌≤◌, false, cond, ltb, List, ◌++◌, length, drop, replicate, is_ok, Ok, Err, Result, refl, ap, ◌∙◌, arith, le-ltb}
+use Rattle.std.proofs.Common.{◌≡◌, ℕ, ◌+◌, ◌≤◌, false, cond, ltb, List, ◌++◌, length, drop, replicate, is_ok, Ok, Err, Result, ap, ◌∙◌, arith, le-ltb}
 use Rattle.std.proofs.lemmas.List.{drop-replicate, length-append, length-replicate}
 use Rattle.value.specs.declared.Value.{Ghosts}
 use Rattle.message.specs.declared.types.Message.{Message}
@@ -7,6 +7,7 @@ use Rattle.message.specs.declared.types.Message.TheVariants as message
 use Rattle.message.specs.declared.types.MessageFault.{MessageFault}
 use Rattle.message.specs.declared.types.Reason.TheVariants as reason
 use Rattle.message.specs.Format.{admits, all_within, encoded, fault, put, size_of}
+use Rattle.message.proofs.RoundTrips.{length-encoded}
 use Rattle.table.specs.Messages.{size, written}
 
 module _ {V : Type 0} (of : Ghosts V) where
@@ -30,15 +31,9 @@ module _ {V : Type 0} (of : Ghosts V) where
       ∙ ap (λ ys. code ++ ys) (drop-replicate (length code) (size of) 0)
 
   module _ (sized : (v : V) → length (of.code v) ≡ of.wide) where
-    pub length-encoded : (m : Message V) → length (encoded of m) ≡ size_of of m
-    length-encoded (message.First h o v) = omega (arith, sized v)
-    length-encoded (message.Second h o v) = omega (arith, sized v)
-    length-encoded (message.Suspicion h) = refl
-    length-encoded (message.Decision h v) = omega (arith, sized v)
-
     pub length-written : (m : Message V) → length (written of m) ≡ size of
     unfolding written
     length-written m =
-        let l = length-encoded m in
+        let l = length-encoded of sized m in
         let w = size-within m in
         simp (length-append, length-replicate) (omega arith)
