@@ -12,7 +12,7 @@ use Rattle.schedule.proofs.calls.open.Goals as goal
 pub returns-in-Ok-open : goal.returns-in-Ok-open
 returns-in-Ok-open c =
     let told = c.in-Ok-open.ensures in
-    let new = c.in-Ok.ensures in
+    let new = c.in-Ok.ensures.made in
     let blank = c.in_ok-bytes.ensures in
     let n = c.args.n in
     let p = c.args.patience in
