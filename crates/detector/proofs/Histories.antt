@@ -1,6 +1,7 @@
 -- What a history comes to.
-use Rattle.std.proofs.Common.{◌≡◌, ℕ, ◌-◌, ◌≤◌, Bool, true, false, cond, not, ◌&&◌, ◌||◌, eqb, ltb, ◌⊎◌, List, [], ◌∷◌, ◌++◌, sym, refl, ap, ◌∙◌, subst, inl, inr, ⊎_elim, arith}
-use Rattle.std.proofs.lemmas.Bool.{both_ways, cases_lt, cases_Bool, lt-ltb, le-ltb}
+use Rattle.std.proofs.Common.{◌≡◌, ℕ, ◌-◌, ◌≤◌, Bool, true, false, ◌⊎◌, List, [], ◌∷◌, ◌++◌, sym, refl, ◌∙◌, inl, inr, ⊎_elim, arith}
+use Rattle.std.proofs.lemmas.Bool.{both_ways, cases_Bool}
+use Rattle.std.proofs.lemmas.Bool.Decides.{nat_tests}
 use Rattle.detector.specs.Meaning.{Meaning, Told, Adjusted, Fresh, Sound}
 use Rattle.detector.specs.declared.history.Event.{Event}
 use Rattle.detector.specs.declared.history.Event.TheVariants.{Crash, Pass}
@@ -32,22 +33,22 @@ adjusted_lowered n p k m m' low t = record {
 -- which stations crashed is all that the count goes by
 module _ (n : ℕ) (c c' : ℕ → Bool) (same : (i : ℕ) → c i ≡ c' i) where
   counted_same : (x : Event) (k : ℕ) → counted n c x k ≡ counted n c' x k
-  counted_same (Crash j) k = ap (λ y. cond (ltb j n && not y) 0 k) (same j)
+  counted_same (Crash j) k = simp same
   counted_same Pass k = refl
 
   crashed_same : (x : Event) (i : ℕ) → crashed_after n c x i ≡ crashed_after n c' x i
-  crashed_same (Crash j) i = ap (λ y. ((ltb j n && not y) && eqb i j) || c i) (same j) ∙ ap (λ y. (adds n c' j && eqb i j) || y) (same i)
+  crashed_same (Crash j) i = simp same
   crashed_same Pass i = same i
 
 module _ {D : Type 0} (M : D → Meaning) where
   -- one call more, at the end
   pub performs_more : (d e f : D) (xs : List Event) (x : Event) → Performs M d xs e → Call M x e f → Performs M d (xs ++ (x ∷ [])) f
-  performs_more d e f [] x same s = (f, subst (λ (y : D). Call M x y f) same s, refl)
+  performs_more d e f [] x same s = (f, rw same at s, refl)
   performs_more d e f (y ∷ xs) x (b, u, l) s = (b, u, performs_more b e f xs x l s)
 
   -- an owner who changes nothing
   pub performs_leads : (d e : D) (xs : List Event) → Performs M d xs e → Leads M d xs e
-  performs_leads d e [] same = subst (λ (y : D). Adjusted (M d) (M y)) (sym same) (adjusted_same (M d))
+  performs_leads d e [] same = rw same (adjusted_same (M d))
   performs_leads d e (x ∷ xs) (b, u, l) = (d, b, adjusted_same (M d), u, performs_leads b e xs l)
 
   module _ (n p : ℕ) where
@@ -55,27 +56,20 @@ module _ {D : Type 0} (M : D → Meaning) where
     telling_adds : (j : ℕ) (d e : D) → (M d).stations ≡ n → Telling M j d e → ((adds n (M d).crashed j ≡ true) × Told j (M d) (M e)) ⊎ ((adds n (M d).crashed j ≡ false) × (e ≡ d))
     telling_adds j d e size t =
         ⊎_elim
-        (λ inside.
-        let known = ap (λ y. y && not ((M d).crashed j)) (lt-ltb j n inside) in
-        ⊎_elim
-        (λ crashed. inr (known ∙ ap not crashed, t.again crashed))
-        (λ live. inl (known ∙ ap not live, t.told (omega arith) live))
-        (cases_Bool ((M d).crashed j)))
-        (λ outside. inr (ap (λ y. y && not ((M d).crashed j)) (le-ltb j n outside), t.unknown (omega arith)))
-        (cases_lt j n)
+        (λ added. inl (added, t.told (grind (arith, nat_tests)) (grind (arith, nat_tests))))
+        (λ known. inr (known, grind (arith, nat_tests, t.unknown, t.again)))
+        (cases_Bool (adds n (M d).crashed j))
 
     -- what one call does to the bound on the waits
     pub call_lowered : (k : ℕ) (x : Event) (d e : D) → Lowered n p k (M d) → Call M x d e → Lowered n p (counted n (M d).crashed x k) (M e)
     call_lowered k (Crash j) d e low t =
         ⊎_elim
-        (λ q.
-        let s = q.1 in
-        subst (λ (y : Bool). Lowered n p (cond y 0 k) (M e)) (sym q.0) (record {
-          stations = s.stations ∙ low.stations;
-          patience = s.patience ∙ low.patience;
-          waits = λ i c. omega (arith, s.waits i c, s.patience, low.patience);
+        (λ q. let told = q.1 in rw q.0 (record {
+          stations = told.stations ∙ low.stations;
+          patience = told.patience ∙ low.patience;
+          waits = λ i c. omega (arith, told.waits i c, told.patience, low.patience);
         }))
-        (λ q. subst (λ (y : Bool). Lowered n p (cond y 0 k) (M e)) (sym q.0) (subst (λ (y : D). Lowered n p k (M y)) (sym q.1) low))
+        (λ q. rw (q.0, q.1) low)
         (telling_adds j d e low.stations t)
     call_lowered k Pass d e low t = record {
       stations = t.stations ∙ low.stations;
@@ -86,10 +80,7 @@ module _ {D : Type 0} (M : D → Meaning) where
     -- what one call does to the crashed stations
     pub call_crashed : (x : Event) (d e : D) → (M d).stations ≡ n → Call M x d e → (i : ℕ) → (M e).crashed i ≡ crashed_after n (M d).crashed x i
     call_crashed (Crash j) d e size t i =
-        ⊎_elim
-        (λ q. subst (λ (y : Bool). (M e).crashed i ≡ ((y && eqb i j) || (M d).crashed i)) (sym q.0) (q.1.crashed i))
-        (λ q. subst (λ (y : Bool). (M e).crashed i ≡ ((y && eqb i j) || (M d).crashed i)) (sym q.0) (ap (λ y. (M y).crashed i) q.1))
-        (telling_adds j d e size t)
+        ⊎_elim (λ q. rw q.0 (q.1.crashed i)) (λ q. rw (q.0, q.1)) (telling_adds j d e size t)
     call_crashed Pass d e size t i = t.crashed i
 
     pub leads_lowered : (c : ℕ → Bool) (k : ℕ) (d e : D) (xs : List Event) → ((i : ℕ) → (M d).crashed i ≡ c i) → Lowered n p k (M d) → Leads M d xs e → Lowered n p (since n c k xs) (M e)
@@ -100,7 +91,7 @@ module _ {D : Type 0} (M : D → Meaning) where
         let next = call_lowered k x a b here u in
         leads_lowered (crashed_after n c x) (counted n c x k) b e xs
         (λ i. call_crashed x a b here.stations u i ∙ crashed_same n (M a).crashed c known x i)
-        (subst (λ (y : ℕ). Lowered n p y (M b)) (counted_same n (M a).crashed c known x k) next) l
+        (rw (counted_same n (M a).crashed c known x k) at next) l
 
   pub completeness : ((d : D) → Sound (M d)) → Completeness M
   completeness sound n p d e xs fresh l long i j inside apart crashed =

@@ -1,12 +1,35 @@
-ghost use Rattle.std.specs.Prelude.{◌≡◌};
-ghost use Rattle.detector.specs.Answers.{error_number};
+ghost use Rattle.std.specs.Prelude.{◌≡◌, Some};
+ghost use Rattle.detector.specs.Answers.{error_number, error_words};
 
-use crate::DetectorError;
+use std::error::Error;
+use std::fmt;
 
-impl DetectorError {
-    pub fn number(self) -> u8
-        ensures { result ≡ error_number self }
-    {
-        self as u8
+// Why a call was refused.
+#[derive(Clone, Copy, PartialEq, Eq, Debug)]
+pub enum DetectorError {
+    // the number of stations is not 3 to 32
+    Stations = 1,
+    // no pair of two different stations
+    Unknown = 3,
+}
+
+impl From<DetectorError> for u8 {
+    ghost from_gives = { λ error number. number ≡ error_number error };
+
+    fn from(error: DetectorError) -> u8 {
+        error as u8
     }
 }
+
+impl fmt::Display for DetectorError {
+    ghost output = { λ error. Some (error_words error) };
+
+    fn fmt<W: fmt::Write>(&self, f: &mut fmt::Formatter<W>) -> fmt::Result {
+        f.write_str(match self {
+            DetectorError::Stations => "stations",
+            DetectorError::Unknown => "unknown",
+        })
+    }
+}
+
+impl Error for DetectorError {}

@@ -4,8 +4,9 @@ ghost use Rattle.detector.specs.History.{Call, Completeness, Performs};
 
 use crate::FailureDetector;
 
-// A call that is made of a failure detector.
-#[derive(Clone, Copy)]
+// A call that is made of a failure detector, as a value: a list holds it, and the law of completeness
+// speaks of such lists.
+#[derive(Clone, Copy, Debug, PartialEq, Eq)]
 pub enum Event {
     // the crash of this station is told
     Crash(usize),

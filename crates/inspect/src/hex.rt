@@ -1,7 +1,7 @@
 // Bytes in hexadecimal.
 use std::alloc::{AllocError, Global};
 
-// A digit, or nothing for any other character.
+// A digit, or nothing for any other character; `to_digit` would take A to F too.
 fn digit(c: u8) -> Option<u8> {
     match c {
         b'0'..=b'9' => Some(c - b'0'),
@@ -10,21 +10,13 @@ fn digit(c: u8) -> Option<u8> {
     }
 }
 
-// The bytes that a text gives, two digits each. Blanks between them, and all other characters, are passed over.
+// The bytes that a text gives, two digits each. Blanks between them, and all other characters, are passed over,
+// as is a last digit that has no second one.
 pub(super) fn bytes_of(heap: Global, text: &[u8]) -> Result<Vec<u8>, AllocError> {
-    let mut bytes = Vec::new(heap);
-    let mut high = None;
-    for c in text {
-        let Some(low) = digit(*c) else {
-            continue;
-        };
-        match high {
-            Some(first) => {
-                bytes.push((first << 4) | low)?;
-                high = None;
-            }
-            None => high = Some(low),
-        }
-    }
-    Ok(bytes)
+    let digits: Vec<u8> = text.iter().copied().filter_map(digit).collect(heap)?;
+    let (pairs, _) = digits.as_chunks::<2>();
+    pairs
+        .iter()
+        .map(|[high, low]| (high << 4) | low)
+        .collect(heap)
 }

@@ -5,7 +5,7 @@ use Rattle.std.proofs.lemmas.Str.Parse.{IsNumeralModel, numerals_by_fold}
 use Rattle.std.proofs.lemmas.Fmt.{digits_decimal, digits_value-decimal, length-decimal-le, decimal_nonempty}
 use Rattle.lines.specs.declared.syntax.Word.{Word}
 use Rattle.lines.specs.declared.syntax.Call.{Call}
-use Rattle.lines.specs.Lines.{is_digit, all_digits, value_after, value, is_number, number_of, split, then, longer, word_of, call_of, reading}
+use Rattle.lines.specs.Lines.{is_digit, all_digits, value_after, value, is_number, number_of, split, ◌>>=◌, longer, word_of, call_of, reading}
 use Rattle.lines.specs.declared.syntax.Word.TheVariants as w
 use Rattle.lines.specs.declared.syntax.Call.TheVariants as c
 use Rattle.lines.specs.Exact.{plain, Says, ExactReading, written, shown, Small}
@@ -28,10 +28,10 @@ from_some : {A : Type 0} (x y : A) → ◌≡◌ {A = Option A} (Some x) (Some y
 from_some x y e = cc
 
 none_some : {A : Type 0} (x : A) → ◌≡◌ {A = Option A} None (Some x) → ⊥
-none_some x e = let z : ◌≡◌ {A = ℕ} 0 1 = cc in omega arith
+none_some x e = cc
 
-then_some : {A B : Type 0} (o : Option A) (f : A → Option B) (y : B) → then o f ≡ Some y → (x : A) × ((o ≡ Some x) × (f x ≡ Some y))
-then_some None f y e = absurd (none_some y e)
+then_some : {A B : Type 0} (o : Option A) (f : A → Option B) (y : B) → (o >>= f) ≡ Some y → (x : A) × ((o ≡ Some x) × (f x ≡ Some y))
+then_some None f y e = cc
 then_some (Some x) f y e = (x, (refl, e))
 
 abbrev Cut : Type 0
@@ -57,7 +57,7 @@ unfolding split
 split-complete [] r p = refl
 split-complete (c ∷ cs) r p =
     let q = and_parts (not (eqb c 44)) (plain cs) p in
-    cond-false (eqb c 44) _ _ (not-true (eqb c 44) q.0) ∙ ap (λ o. then o (longer c)) (split-complete cs r q.1)
+    cond-false (eqb c 44) _ _ (not-true (eqb c 44) q.0) ∙ ap (λ o. o >>= longer c) (split-complete cs r q.1)
 
 digits_plain : (s : List ℕ) → all_digits s ≡ true → plain s ≡ true
 digits_plain [] e = refl

@@ -1,5 +1,5 @@
 -- What the lines of a text say.
-use Rattle.std.specs.Prelude.{ℕ, ◌+◌, ◌-◌, ◌*◌, ◌^◌, Bool, true, cond, ◌&&◌, List, [], ◌∷◌, length, drop, Some, None, codes, Option, ◌==◌, nat_le, nat_lt, slice_index}
+use Rattle.std.specs.Prelude.{ℕ, ◌+◌, ◌-◌, ◌*◌, ◌^◌, Bool, true, cond, ◌&&◌, List, [], ◌∷◌, length, drop, Some, None, codes, Option, option_and_then, option_map, ◌==◌, nat_le, nat_lt, slice_index}
 use Rattle.std.specs.Borrow.{Bor}
 use Rattle.std.specs.Str.{bytes_eq}
 use Rattle.lines.specs.declared.syntax.Symbol.{Symbol}
@@ -20,6 +20,10 @@ symbol_of c = cond (is_digit c) (Digit (c - 48)) (cond (c == 44) Separator Other
 -- one more digit behind a number, as long as it stays below 2 ^ 64
 abbrev pub extended : ℕ → ℕ → Option ℕ
 extended v d = cond (nat_lt (v * 10 + d) (2 ^ 64)) (Some (v * 10 + d)) None
+
+-- one more character behind a number, if it is a digit
+abbrev pub extended_by : ℕ → ℕ → Option ℕ
+extended_by v c = cond (is_digit c) (extended v (c - 48)) None
 
 -- each byte is a digit
 abbrev pub all_digits : List ℕ → Bool
@@ -44,9 +48,9 @@ unfoldable pub number_of : List ℕ → Option ℕ
 number_of s = cond (is_number s) (Some (value s)) None
 
 -- the second step, where the first gave something
-abbrev pub then : {A B : Type 0} → Option A → (A → Option B) → Option B
-then None f = None
-then (Some x) f = f x
+infixl 10 ◌>>=◌
+abbrev pub ◌>>=◌ : {A B : Type 0} → Option A → (A → Option B) → Option B
+o >>= f = option_and_then f o
 
 -- one byte more in front of the first part
 abbrev pub longer : ℕ → List ℕ × List ℕ → Option (List ℕ × List ℕ)
@@ -55,12 +59,11 @@ longer c p = Some (c ∷ p.0, p.1)
 -- what stands before the first separator, and what after it
 unfoldable pub split : List ℕ → Option (List ℕ × List ℕ)
 split [] = None
-split (c ∷ cs) = cond (c == 44) (Some ([], cs)) (then (split cs) (longer c))
+split (c ∷ cs) = cond (c == 44) (Some ([], cs)) (split cs >>= longer c)
 
 -- what two borrowed parts hold
 abbrev pub seen_pair : Option (Bor (List ℕ) × Bor (List ℕ)) → Option (List ℕ × List ℕ)
-seen_pair None = None
-seen_pair (Some p) = Some (p.0.now, p.1.now)
+seen_pair parts = option_map (λ p. (p.0.now, p.1.now)) parts
 
 -- the word that a field names
 abbrev pub word_of : List ℕ → Option Word
@@ -89,9 +92,13 @@ call_of w.Pass a b = if_zero a (if_zero b (Some c.Pass))
 
 -- the call that a line writes: a word and two numbers
 abbrev pub reading : List ℕ → Option Call
-reading line =
-    then (split line) (λ p. then (split p.1) (λ q.
-    then (word_of p.0) (λ w. then (number_of q.0) (λ a. then (number_of q.1) (λ b. call_of w a b)))))
+reading line = do
+  parts ← split line
+  numbers ← split parts.1
+  word ← word_of parts.0
+  first ← number_of numbers.0
+  second ← number_of numbers.1
+  call_of word first second
 
 -- whether a line's end, 13 and 10, stands in front
 abbrev pub at_end : List ℕ → Bool

@@ -8,4 +8,4 @@ mod text;
 
 pub use line::{read_line, reading_is_exact};
 pub use syntax::Call;
-pub use text::split_line;
+pub use text::{Lines, split_line};

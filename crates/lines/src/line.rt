@@ -1,6 +1,5 @@
 // One line: a word and two numbers, with a separator between each two.
 ghost use Rattle.std.specs.Prelude.{◌≡◌};
-ghost use Rattle.std.specs.Str.{bytes_eq};
 ghost use Rattle.lines.specs.Exact.{ExactReading};
 ghost use Rattle.lines.specs.Lines.{call_of, reading, seen_pair, split, word_of};
 
@@ -11,45 +10,30 @@ use super::syntax::{Call, Symbol, Word};
 fn split_field(text: &[u8]) -> Option<(&[u8], &[u8])>
     ensures { seen_pair result ≡ split text.now }
 {
-    for (i, b) in text.iter().enumerate() {
-        if let Symbol::Separator = classify(char::from(*b)) {
-            return Some((&text[0..i], &text[i + 1..]));
-        }
-    }
-    None
+    let i = text
+        .iter()
+        .position(|&b| classify(char::from(b)) == Symbol::Separator)?;
+    Some((&text[..i], &text[i + 1..]))
 }
 
-// Whether two texts are the same bytes.
-fn same(text: &[u8], word: &[u8]) -> bool
-    ensures { result ≡ bytes_eq text.now word.now }
-{
-    text == word
-}
-
-// The call that a word names.
+// The call that a word names. No `TryFrom`: it would wrap the same match in an error that nobody reads.
 fn read_word(text: &[u8]) -> Option<Word>
     ensures { result ≡ word_of text.now }
 {
-    if same(text, b"open") {
-        Some(Word::Open)
-    } else if same(text, b"propose") {
-        Some(Word::Propose)
-    } else if same(text, b"start") {
-        Some(Word::Start)
-    } else if same(text, b"deliver") {
-        Some(Word::Deliver)
-    } else if same(text, b"consult") {
-        Some(Word::Consult)
-    } else if same(text, b"crash") {
-        Some(Word::Crash)
-    } else if same(text, b"pass") {
-        Some(Word::Pass)
-    } else {
-        None
+    match text {
+        b"open" => Some(Word::Open),
+        b"propose" => Some(Word::Propose),
+        b"start" => Some(Word::Start),
+        b"deliver" => Some(Word::Deliver),
+        b"consult" => Some(Word::Consult),
+        b"crash" => Some(Word::Crash),
+        b"pass" => Some(Word::Pass),
+        _ => None,
     }
 }
 
-// The call of a word and its two numbers; a number that the call has no use for is 0.
+// The call of a word and its two numbers; a number that the call has no use for is 0. No `TryFrom`, which
+// would take the three as one value and give an error that nobody reads.
 fn make_call(word: Word, first: u64, second: u64) -> Option<Call>
     ensures { result ≡ call_of word first second }
 {
@@ -75,8 +59,6 @@ pub fn read_line(line: &[u8]) -> Option<Call>
 }
 
 // A line reads as a call exactly when its three fields say it.
-pub fn reading_is_exact() -> u8
+pub fn reading_is_exact()
     ensures { ExactReading }
-{
-    0
-}
+{}

@@ -1,6 +1,6 @@
 // The decimal reader.
 ghost use Rattle.std.specs.Prelude.{◌≡◌};
-ghost use Rattle.lines.specs.Lines.{extended, number_of, symbol_of};
+ghost use Rattle.lines.specs.Lines.{extended_by, number_of, symbol_of};
 
 use super::syntax::Symbol;
 
@@ -24,10 +24,13 @@ pub(super) fn classify(c: char) -> Symbol
     }
 }
 
-// One more digit behind a number, or none where it then passes 64 bits.
-fn extend(value: u64, digit: u8) -> Option<u64>
-    ensures { result ≡ extended value digit }
+// One more character behind a number, or none where it is no digit or the number then passes 64 bits.
+fn extend(value: u64, c: char) -> Option<u64>
+    ensures { result ≡ extended_by value c }
 {
+    let Symbol::Digit(digit) = classify(c) else {
+        return None;
+    };
     value.checked_mul(10)?.checked_add(u64::from(digit))
 }
 
@@ -38,12 +41,6 @@ pub(super) fn read_number(text: &[u8]) -> Option<u64>
     if text.is_empty() || text.len() > 20 {
         return None;
     }
-    let mut value = 0;
-    for b in text {
-        let Symbol::Digit(digit) = classify(char::from(*b)) else {
-            return None;
-        };
-        value = extend(value, digit)?;
-    }
-    Some(value)
+    text.iter()
+        .try_fold(0, |value, &b| extend(value, char::from(b)))
 }

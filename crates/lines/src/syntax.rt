@@ -1,7 +1,8 @@
 // What a reader of lines sees.
 
-// A character of a field that holds a number, or the end of a field.
-#[derive(Clone, Copy)]
+// A character of a field that holds a number, or the end of a field. Settled form: digits and separator
+// are literal cases of one match, which gives one answer more than an Option of a digit has.
+#[derive(Clone, Copy, Debug, PartialEq, Eq)]
 pub enum Symbol {
     Digit(u8),
     Separator,
@@ -9,7 +10,7 @@ pub enum Symbol {
 }
 
 // The word in front of a line.
-#[derive(Clone, Copy)]
+#[derive(Clone, Copy, Debug, PartialEq, Eq)]
 pub enum Word {
     Open,
     Propose,
@@ -21,7 +22,7 @@ pub enum Word {
 }
 
 // A call as a line writes it.
-#[derive(Clone, Copy)]
+#[derive(Clone, Copy, Debug, PartialEq, Eq)]
 pub enum Call {
     Open { stations: u64, patience: u64 },
     Propose { station: u64, number: u64 },

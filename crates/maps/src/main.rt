@@ -1,12 +1,15 @@
 // A run over graded maps with the exact failure detector: the first coordinator crashes, and the others settle on a map.
 #![tactic(auto)]
 
-use anyhow::anyhow;
-use detector::{ExactDetector, FailureDetector};
+mod words;
+
+use anyhow::Context;
+use detector::ExactDetector;
 use run::{Closed, Gathering, Refusal, Running};
-use station::Station;
+use station::{Outcome, Station};
 use std::io;
 use value::GradedMap;
+use words::{Counts, Decision};
 
 // 64 places, each of 24 bytes and those of a graded map.
 const TABLE: usize = 64 * 36;
@@ -38,82 +41,69 @@ const READ: [GradedMap; 3] = [
     },
 ];
 
-// Opens and starts a run in which each station proposes what it has read.
-fn begin(desk: &mut Desk) -> Result<Running, Refusal> {
-    let gathering = Gathering::open(3, &mut desk.stations, &mut desk.bytes, &desk.detector)?;
-    for i in 0..3 {
-        gathering.propose(&mut desk.stations, &desk.bytes, &desk.detector, i, READ[i])?;
-    }
-    match gathering.start(&mut desk.stations, &mut desk.bytes, &desk.detector) {
-        Ok(running) => Ok(running),
-        Err(back) => {
-            let (_, refusal) = back;
-            Err(refusal)
+impl Desk {
+    fn new(detector: ExactDetector) -> Desk {
+        Desk {
+            stations: [Station::new(0, 0); 3],
+            bytes: [0; TABLE],
+            detector,
         }
     }
-}
 
-// Delivers, in turn, what stands at place 0 or, where that is early, at the last place.
-fn deliver_all(running: &mut Running, desk: &mut Desk) {
-    for _ in 0..200 {
-        let first = running.deliver(&mut desk.stations, &mut desk.bytes, &desk.detector, 0);
-        if first.is_err() {
-            let last = usize::from(running.waiting().saturating_sub(1));
-            let _ = running.deliver(&mut desk.stations, &mut desk.bytes, &desk.detector, last);
+    // Opens and starts a run in which each station proposes what it has read.
+    fn begin(&mut self) -> Result<Running, Refusal> {
+        let gathering = Gathering::open(3, &mut self.stations, &mut self.bytes, &self.detector)?;
+        for (i, map) in READ.into_iter().enumerate() {
+            gathering.propose(&mut self.stations, &self.bytes, &self.detector, i, map)?;
+        }
+        gathering
+            .start(&mut self.stations, &mut self.bytes, &self.detector)
+            .map_err(|(_, refusal)| refusal)
+    }
+
+    fn deliver(&mut self, running: &mut Running, place: usize) -> Result<Outcome, Refusal> {
+        running.deliver(&mut self.stations, &mut self.bytes, &self.detector, place)
+    }
+
+    // Delivers, in turn, what stands at place 0 or, where that is early, at the last place.
+    fn deliver_all(&mut self, running: &mut Running) {
+        // a count of turns, more than this run needs: no measure shows that messages cease to wait
+        for _ in 0..200 {
+            if self.deliver(running, 0).is_err() {
+                let last = usize::from(running.waiting().saturating_sub(1));
+                let _ = self.deliver(running, last);
+            }
         }
     }
-}
 
-// The coordinator of round 0 crashes after its start, both others say that they suspect it, and all is delivered.
-fn perform(desk: &mut Desk) -> Result<Closed, Refusal> {
-    let mut running = begin(desk)?;
-    running.crash(&mut desk.stations, &desk.bytes, &mut desk.detector, 0)?;
-    for i in 1..3 {
-        let _ = running.consult(&mut desk.stations, &mut desk.bytes, &desk.detector, i)?;
-    }
-    deliver_all(&mut running, desk);
-    Ok(running.close())
-}
-
-// Prints what a station has decided.
-fn show_station(rt: &HostRuntime, i: usize, station: &Station<GradedMap>) -> io::Result<()> {
-    let round = station.round;
-    match station.decision {
-        Some(decided) => {
-            let map = decided.map;
-            let grade = decided.grade;
-            let verso = decided.verso;
-            println!(rt; "station {i}, round {round}: map {map}, grade {grade}, verso {verso}")
+    // The coordinator of round 0 crashes after its start, both others say that they suspect it, and all is delivered.
+    fn perform(&mut self) -> Result<Closed, Refusal> {
+        let mut running = self.begin()?;
+        running.crash(&mut self.stations, &self.bytes, &mut self.detector, 0)?;
+        for other in [1, 2] {
+            let _ = running.consult(&mut self.stations, &mut self.bytes, &self.detector, other)?;
         }
-        None => println!(rt; "station {i}, round {round}: none"),
+        self.deliver_all(&mut running);
+        Ok(running.close())
     }
 }
 
-// Prints the counts of a run, and its stations.
-fn show(rt: &HostRuntime, closed: Closed, stations: &[Station<GradedMap>]) -> io::Result<()> {
-    let sent = closed.sent;
-    let waiting = closed.waiting;
-    let delivered = closed.delivered;
-    let lost = closed.lost;
-    println!(rt; "sent {sent}, waiting {waiting}, delivered {delivered}, lost {lost}")?;
-    for i in 0..stations.len() {
-        show_station(rt, i, &stations[i])?;
+// Prints the counts of a run, and what each station has decided.
+fn show(rt: &impl Print, closed: Closed, stations: &[Station<GradedMap>]) -> io::Result<()> {
+    println!(rt; "{}", Counts(closed))?;
+    for (i, station) in stations.iter().enumerate() {
+        println!(rt;
+            "station {i}, round {}: {}",
+            station.round,
+            Decision(station.decision)
+        )?;
     }
     Ok(())
 }
 
-fn settle(rt: &HostRuntime) -> anyhow::Result<()> {
-    let Ok(detector) = ExactDetector::new(3) else {
-        return Err(anyhow!("no detector"));
-    };
-    let mut desk = Desk {
-        stations: [Station::new(0, 0); 3],
-        bytes: [0; TABLE],
-        detector,
-    };
-    let Ok(closed) = perform(&mut desk) else {
-        return Err(anyhow!("a call was refused"));
-    };
+fn settle(rt: &impl Print) -> anyhow::Result<()> {
+    let mut desk = Desk::new(ExactDetector::new(3)?);
+    let closed = desk.perform().context("a call was refused")?;
     show(rt, closed, &desk.stations)?;
     Ok(())
 }

@@ -12,14 +12,14 @@ use Rattle.message.proofs.Opens.{opens, opens_again}
 use Rattle.message.proofs.Ranges.{decoded-within, within_bytes}
 use Rattle.message.proofs.Trips.{reads_back}
 
-module _ {V : Type 0} (of : Ghosts V) (sized : (v : V) → length (of.code v) ≡ of.wide) where
+module _ {V : Type 0} (of : Ghosts V) (sized : (v : V) → length (of.code v) ≡ of.WIDTH) where
   pub length-encoded : (m : Message V) → length (encoded of m) ≡ size_of of m
   length-encoded (message.First h o v) = omega (arith, sized v)
   length-encoded (message.Second h o v) = omega (arith, sized v)
   length-encoded (message.Suspicion h) = refl
   length-encoded (message.Decision h v) = omega (arith, sized v)
 
-module _ {V : Type 0} (of : Ghosts V) (sized : (v : V) → length (of.code v) ≡ of.wide) (reads : (v : V) → (w : V) × (of.parse (of.code v) ≡ Ok w) × (of.code w ≡ of.code v)) (writes : (b : List ℕ) (v : V) → Bytes b → of.parse b ≡ Ok v → of.code v ≡ b) where
+module _ {V : Type 0} (of : Ghosts V) (sized : (v : V) → length (of.code v) ≡ of.WIDTH) (reads : (v : V) → (w : V) × (of.parse (of.code v) ≡ Ok w) × (of.code w ≡ of.code v)) (writes : (b : List ℕ) (v : V) → Bytes b → of.parse b ≡ Ok v → of.code v ≡ b) where
   pub comes_back : (m : Message V) (t : List ℕ) → all_within m ≡ Ok tt → ComesBack of m (encoded of m ++ t)
   comes_back m t w = (reads_back of sized reads m t w, opens_again of reads writes m)
 

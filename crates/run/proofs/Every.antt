@@ -1,37 +1,31 @@
--- A test of each record in turn.
-use Rattle.std.proofs.Common.{◌≡◌, ℕ, zero, suc, ◌+◌, ◌<◌, ◌≤◌, Bool, true, ◌&&◌, List, [], ◌∷◌, length, get_or, drop, sym, ap, ◌∙◌, subst, arith}
-use Rattle.std.proofs.lemmas.List.{at_drop_all, at_drop_more}
-use Rattle.std.proofs.lemmas.Bool.{and_parts}
+-- What is known of each record where all passed a test.
+use Rattle.std.proofs.Common.{◌≡◌, ℕ, zero, suc, ◌+◌, ◌<◌, true, List, [], ◌∷◌, length, is_some, refl, ap, ◌∙◌, subst, arith}
+use Rattle.std.proofs.lemmas.List.Elements.{All-get_or}
+use Rattle.std.proofs.lemmas.List.FromFn.{get_or-enumerate_from, length-enumerate_from}
+use Rattle.std.proofs.lemmas.List.Sums.{AllPass-from_list_all}
+use Rattle.std.specs.List.{enumerate_from, range_with_len, zip}
+use Rattle.station.specs.Rule.{formed}
 use Rattle.station.specs.declared.state.Station.{Station}
-use Rattle.run.specs.Gather.{all_from}
-use Rattle.run.specs.Records.{station_at}
+use Rattle.run.specs.Gather.{all_formed, all_proposed}
+use Rattle.run.specs.Records.{blank, station_at}
 
-module _ {V : Type 0} (test : ℕ → Station V → Bool) where
-  -- the next record, and those behind it
-  pub all_next : (xs : List (Station V)) (i : ℕ) (s : Station V) (b : Bool) → i < length xs → s ≡ get_or xs i s → test i s ≡ b
-      → all_from test i (drop i xs) ≡ all_from test 0 xs → (b && all_from test (i + 1) (drop (i + 1) xs)) ≡ all_from test 0 xs
-  unfolding all_from
-  all_next xs i s b h at e inv =
-      let rest = all_from test (i + 1) (drop (i + 1) xs) in
-      let front : all_from test i (drop i xs) ≡ (test i (get_or xs i s) && rest) = at_drop_more (all_from test i) xs i s h in
-      ap (λ x. x && rest) (sym e ∙ ap (test i) at) ∙ sym front ∙ inv
+-- a list beside the numbers from i on, of which there are as many
+pub numbered : {X : Type 0} (i : ℕ) (xs : List X) (n : ℕ) → length xs ≡ n → zip (range_with_len i n) xs ≡ enumerate_from i xs
+numbered i [] zero l = refl
+numbered i [] (suc n) l = absurd (omega arith)
+numbered i (x ∷ xs) zero l = absurd (omega arith)
+numbered i (x ∷ xs) (suc n) l = ap (λ ys. (i, x) ∷ ys) (numbered (i + 1) xs n (omega arith))
 
-  -- no record is left
-  pub all_done : (xs : List (Station V)) (i : ℕ) → length xs ≤ i → all_from test i (drop i xs) ≡ all_from test 0 xs → true ≡ all_from test 0 xs
-  unfolding all_from
-  all_done xs i h inv =
-      let none : all_from test i (drop i xs) ≡ true = at_drop_all (all_from test i) xs i h in
-      sym none ∙ inv
+module _ {V : Type 0} where
+  pub formed_at : (n : ℕ) (ss : List (Station V)) (k : ℕ) → k < length ss → all_formed n ss ≡ true → formed n k (station_at ss k) ≡ true
+  formed_at n ss k h e =
+      let test = λ (p : ℕ × Station V). formed n p.0 p.1 in
+      let P : ℕ × Station V → Type 0 = λ p. test p ≡ true in
+      let z : (0 + k, station_at ss k) ≡ (k, station_at ss k) = let e : 0 + k ≡ k = omega arith in ap (λ j. (j, station_at ss k)) e in
+      subst P (get_or-enumerate_from 0 ss k (0, blank) h ∙ z)
+      (All-get_or P (enumerate_from 0 ss) k (0, blank) (omega (arith, length-enumerate_from 0 ss)) (AllPass-from_list_all test (enumerate_from 0 ss) e))
 
-  -- what passed for all passed for each
-  pub all_at : (i : ℕ) (xs : List (Station V)) (k : ℕ) → all_from test i xs ≡ true → k < length xs → test (i + k) (station_at xs k) ≡ true
-  unfolding all_from
-  all_at i [] k e h = absurd (omega arith)
-  all_at i (x ∷ xs) zero e h =
-      let z : i ≡ i + 0 = omega arith in
-      let P : ℕ → Type 0 = λ j. test j x ≡ true in
-      subst P z (and_parts _ _ e).0
-  all_at i (x ∷ xs) (suc k) e h =
-      let z : (i + 1) + k ≡ i + suc k = omega arith in
-      let P : ℕ → Type 0 = λ j. test j (station_at xs k) ≡ true in
-      subst P z (all_at (i + 1) xs k (and_parts _ _ e).1 (omega arith))
+  pub proposed_at : (ss : List (Station V)) (k : ℕ) → k < length ss → all_proposed ss ≡ true → is_some (station_at ss k).estimate ≡ true
+  proposed_at ss k h e =
+      let P : Station V → Type 0 = λ s. is_some s.estimate ≡ true in
+      All-get_or P ss k blank h (AllPass-from_list_all (λ s. is_some s.estimate) ss e)

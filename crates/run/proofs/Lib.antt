@@ -1,9 +1,7 @@
 pub mod Within
+pub mod Members
 pub mod Counts
 pub mod Posts
-pub mod Known
 pub mod Possible
-pub mod Plans
-pub mod Crashes
 pub mod Every
 pub mod Opening

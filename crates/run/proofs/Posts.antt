@@ -10,19 +10,13 @@ use Rattle.station.specs.declared.broadcast.Content.TheVariants as content
 use Rattle.station.specs.declared.step.Step.{Step}
 use Rattle.station.specs.declared.broadcast.Broadcast.{Broadcast}
 use Rattle.station.specs.declared.step.Refused.{Refused}
+use Rattle.run.specs.Incoming.{Origin}
 
 on : {P : Type 0} (b : Bool) → (b ≡ true → P) → (b ≡ false → P) → P
 on true p q = p refl
 on false p q = q refl
 
 module _ {V : Type 0} where
-  -- an origin is one of n stations
-  abbrev pub Origin : ℕ → Content V → Type 0
-  Origin n (content.First o v) = o < n
-  Origin n (content.Second o v) = o < n
-  Origin n content.Suspicion = Unit {0}
-  Origin n (content.Decision v) = Unit {0}
-
   -- what one of n stations sends, which is then in round q
   abbrev pub Fair : ℕ → ℕ → Option (Broadcast V) → Type 0
   Fair n q None = Unit {0}

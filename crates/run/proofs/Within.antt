@@ -8,11 +8,11 @@ use Rattle.message.specs.declared.types.Kind.{Kind}
 use Rattle.message.specs.declared.types.Kind.TheVariants as kind
 use Rattle.message.specs.declared.types.Message.{Message}
 use Rattle.message.specs.declared.types.Message.TheVariants as message
-use Rattle.message.specs.Format.{ranged, headed, head_within, within, valued, bodied, decoded, opened}
+use Rattle.message.specs.Format.{ranged, headed, head_within, within, valued, bodied, decoded, opened, head_of}
 use Rattle.message.proofs.Ranges.{headed-within}
 use Rattle.message.proofs.Trips.{before, tested}
 use Rattle.table.specs.Messages.{reopened, understood}
-use Rattle.run.specs.Incoming.{Ranges, head}
+use Rattle.run.specs.Incoming.{Ranges}
 
 unit_range : (i low high n : ℕ) → within i low high n ≡ Ok tt → (low ≤ n) × (n ≤ high)
 unit_range i low high n e =
@@ -35,44 +35,44 @@ head_ranges h e =
     }
 
 module _ {V : Type 0} (of : Ghosts V) where
-  bodied-head : (k : Kind) (h : Head) (s : List ℕ) (m : Message (List ℕ)) → bodied of k h s ≡ Ok m → h ≡ head m
+  bodied-head : (k : Kind) (h : Head) (s : List ℕ) (m : Message (List ℕ)) → bodied of k h s ≡ Ok m → h ≡ head_of m
   bodied-head kind.First h s m e =
       let o = before (ranged 20 0 31 s) _ m e in
       let v = before (valued of 24 o.0.1) _ m o.2 in
       let same : message.First h o.0.0 v.0 ≡ m = cc in
-      ap head same
+      ap head_of same
   bodied-head kind.Second h s m e =
       let o = before (ranged 20 0 31 s) _ m e in
       let v = before (valued of 24 o.0.1) _ m o.2 in
       let same : message.Second h o.0.0 v.0 ≡ m = cc in
-      ap head same
-  bodied-head kind.Suspicion h s m e = let same : message.Suspicion h ≡ m = cc in ap head same
+      ap head_of same
+  bodied-head kind.Suspicion h s m e = let same : message.Suspicion h ≡ m = cc in ap head_of same
   bodied-head kind.Decision h s m e =
       let v = before (valued of 20 s) _ m e in
       let same : message.Decision h v.0 ≡ m = cc in
-      ap head same
+      ap head_of same
 
-  opened-head : (b : Message (List ℕ)) (m : Message V) → opened of b ≡ Ok m → head b ≡ head m
+  opened-head : (b : Message (List ℕ)) (m : Message V) → opened of b ≡ Ok m → head_of b ≡ head_of m
   opened-head (message.First h o s) m e =
       let v = before (of.parse s) _ m e in
       let same : message.First h o v.0 ≡ m = cc in
-      ap head same
+      ap head_of same
   opened-head (message.Second h o s) m e =
       let v = before (of.parse s) _ m e in
       let same : message.Second h o v.0 ≡ m = cc in
-      ap head same
-  opened-head (message.Suspicion h) m e = let same : message.Suspicion h ≡ m = cc in ap head same
+      ap head_of same
+  opened-head (message.Suspicion h) m e = let same : message.Suspicion h ≡ m = cc in ap head_of same
   opened-head (message.Decision h s) m e =
       let v = before (of.parse s) _ m e in
       let same : message.Decision h v.0 ≡ m = cc in
-      ap head same
+      ap head_of same
 
   reopened_ok : (r : Result (Message V) ValueFault) (m : Message V) → reopened r ≡ Ok m → r ≡ Ok m
   reopened_ok (Ok x) m e = let same : x ≡ m = cc in ap Ok same
   reopened_ok (Err f) m e = let k : ◌≡◌ {A = ℕ} 0 1 = cc in absurd (omega arith)
 
   -- a message that was understood is within its ranges
-  pub understood_ranges : (s : List ℕ) (m : Message V) → understood of s ≡ Ok m → Ranges (head m)
+  pub understood_ranges : (s : List ℕ) (m : Message V) → understood of s ≡ Ok m → Ranges (head_of m)
   unfolding understood
   understood_ranges s m e =
       let b = before (decoded of s) _ m e in

@@ -1,10 +1,10 @@
 -- Deliveries.
 use Rattle.std.specs.Prelude.{ℕ, ◌+◌, ◌-◌, ◌*◌, cond, not, List, [], ◌∷◌, length, Ok, Err, Result, nat_le, slice_set}
-use Rattle.message.specs.Format.{next}
+use Rattle.message.specs.Format.{head_of, next}
 use Rattle.message.specs.declared.types.Message.{Message}
 use Rattle.run.specs.Admission.{admitted}
 use Rattle.run.specs.After.{After}
-use Rattle.run.specs.Incoming.{head, incoming_for}
+use Rattle.run.specs.Incoming.{incoming_for}
 use Rattle.run.specs.Numbers.{Numbers, tables_fit}
 use Rattle.run.specs.Posting.{posted, posted_bytes}
 use Rattle.run.specs.Records.{station_at, record_sound}
@@ -29,6 +29,11 @@ module _ {V : Type 0} where
   paired s (Ok x) = Ok (s, x)
   paired s (Err e) = Err (of_step e)
 
+  -- an answer with the record that is left beside it
+  abbrev pub beside : {X : Type 0} → Station V → Result X Refusal → Result (Station V × X) Refusal
+  beside s (Ok x) = Ok (s, x)
+  beside s (Err e) = Err e
+
   -- what a message makes of a station; one that crashed takes nothing
   unfoldable pub tried : Station V → Broadcast V → Result (Station V × Step V) Refusal
   tried s m = cond s.crashed (Ok (s, quiet outcome.Nothing)) (paired (take_rule s m).0 (take_rule s m).1)
@@ -36,17 +41,17 @@ module _ {V : Type 0} where
   -- what the delivery of a message comes to
   unfoldable pub planned_for : Numbers → List (Station V) → Message V → Result (Plan V) Refusal
   planned_for run stations m =
-      refusing ((not (record_sound run.n stations (head m).receiver), refusal.Tables) ∷ [])
+      refusing ((not (record_sound run.n stations (head_of m).receiver), refusal.Tables) ∷ [])
       (next (of_message (incoming_for run.n m)) (λ i.
-      next (tried (station_at stations (head m).receiver) i) (λ p.
+      next (tried (station_at stations (head_of m).receiver) i) (λ p.
       next (admitted run (run.waiting - 1) p.0 p.1) (λ _.
-      Ok (record { to = (head m).receiver; station = p.0; step = p.1 })))))
+      Ok (record { to = (head_of m).receiver; station = p.0; step = p.1 })))))
 
   -- what the delivery from place k comes to
   unfoldable pub planned : Ghosts V → Numbers → List (Station V) → List ℕ → ℕ → Result (Plan V) Refusal
   planned of run stations bytes k =
       refusing
-      ((not (tables_fit of.wide run (length stations) (length bytes)), refusal.Tables) ∷
+      ((not (tables_fit of.WIDTH run (length stations) (length bytes)), refusal.Tables) ∷
       (nat_le run.waiting k, refusal.Place) ∷ [])
       (next (of_message (understood of (place bytes (k * size of) (size of)))) (planned_for run stations))
 

@@ -1,5 +1,6 @@
 -- From the opening of a run to its start.
-use Rattle.std.specs.Prelude.{◌≡◌, ℕ, ◌+◌, ◌*◌, ◌/◌, ◌<◌, Bool, true, not, ◌&&◌, ◌||◌, List, [], ◌∷◌, length, replicate, is_some, Ok, Err, Result, ◌==◌, nat_le, nat_lt, slice_set}
+use Rattle.std.specs.Prelude.{◌≡◌, ℕ, ◌+◌, ◌*◌, ◌/◌, ◌<◌, Bool, not, ◌||◌, List, [], ◌∷◌, length, replicate, is_some, Ok, Err, Result, ◌==◌, nat_le, nat_lt, slice_set}
+use Rattle.std.specs.List.{enumerate_from, list_all}
 use Rattle.value.specs.declared.Value.{Ghosts}
 use Rattle.station.specs.Rule.{formed, fresh, proposing, started}
 use Rattle.station.specs.declared.state.Station.{Station}
@@ -39,22 +40,13 @@ module _ {V : Type 0} where
   unfoldable pub record_formed : ℕ → List (Station V) → ℕ → Bool
   record_formed n stations i = nat_le n i || formed n i (station_at stations i)
 
-  -- each record passes a test, from that of station i on
-  unfoldable pub all_from : (ℕ → Station V → Bool) → ℕ → List (Station V) → Bool
-  all_from test i [] = true
-  all_from test i (s ∷ ss) = test i s && all_from test (i + 1) ss
-
   -- each record is one of before the start
   abbrev pub all_formed : ℕ → List (Station V) → Bool
-  all_formed n = all_from (formed n) 0
-
-  -- station i has proposed
-  abbrev pub proposed : ℕ → Station V → Bool
-  proposed i s = is_some s.estimate
+  all_formed n stations = list_all (λ p. formed n p.0 p.1) (enumerate_from 0 stations)
 
   -- each station has proposed
   abbrev pub all_proposed : List (Station V) → Bool
-  all_proposed = all_from proposed 0
+  all_proposed stations = list_all (λ s. is_some s.estimate) stations
 
   -- round 0 has begun at each station
   pub record Begun (stations stations' : List (Station V)) : Type 0 where
@@ -74,7 +66,7 @@ module _ {V : Type 0} (of : Ghosts V) where
   -- whether station i may propose
   unfoldable pub propose_answer : Numbers → List (Station V) → ℕ → ℕ → Result (Unit {0}) Refusal
   propose_answer run stations bytes i = refusing
-      ((not (tables_fit of.wide run (length stations) bytes), refusal.Tables) ∷
+      ((not (tables_fit of.WIDTH run (length stations) bytes), refusal.Tables) ∷
       (not (record_formed run.n stations i), refusal.Tables) ∷
       (nat_le run.n i, refusal.Unknown) ∷
       (is_some (station_at stations i).estimate, refusal.Repeated) ∷ [])
@@ -83,7 +75,7 @@ module _ {V : Type 0} (of : Ghosts V) where
   -- what the coordinator of round 0 sends, if the run may start
   unfoldable pub start_planned : Numbers → List (Station V) → ℕ → Result (Step V) Refusal
   start_planned run stations bytes = refusing
-      ((not (tables_fit of.wide run (length stations) bytes), refusal.Tables) ∷
+      ((not (tables_fit of.WIDTH run (length stations) bytes), refusal.Tables) ∷
       (not (all_formed run.n stations), refusal.Tables) ∷
       (not (all_proposed stations), refusal.Missing) ∷
       (late (started (station_at stations 0)).1.sent, refusal.Stamp) ∷ [])

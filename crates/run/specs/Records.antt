@@ -24,7 +24,7 @@ module _ {V : Type 0} where
 -- whether a call may name station i
 unfoldable pub named : {V : Type 0} → Ghosts V → Numbers → List (Station V) → ℕ → ℕ → Result (Unit {0}) Refusal
 named of run stations bytes i = refusing
-    ((not (tables_fit of.wide run (length stations) bytes), refusal.Tables) ∷
+    ((not (tables_fit of.WIDTH run (length stations) bytes), refusal.Tables) ∷
     (not (record_sound run.n stations i), refusal.Tables) ∷
     (nat_le run.n i, refusal.Unknown) ∷
     ((station_at stations i).crashed, refusal.Crashed) ∷ [])

@@ -1,5 +1,5 @@
 // What a run came to.
-#[derive(Clone, Copy)]
+#[derive(Clone, Copy, Debug, PartialEq, Eq)]
 pub struct Closed {
     pub n: u8,
     pub sent: u32,

@@ -1,41 +1,33 @@
 // Consultations of the failure detector.
-ghost use Rattle.std.specs.Prelude.{◌≡◌, length};
-ghost use Rattle.station.specs.Rule.{Sound};
+ghost use Rattle.std.specs.Prelude.{◌≡◌, length, IfOk};
 ghost use Rattle.run.specs.After.{after};
-ghost use Rattle.run.specs.Consult.{after_consulting, consult_planned, consulted};
+ghost use Rattle.run.specs.Consult.{consult_planned, consulted};
 ghost use Rattle.run.specs.Numbers.{numbers};
+ghost use Rattle.run.specs.Ready.{Ready};
 
 use super::plan::Plan;
 use super::refusal::Refusal;
 use super::running::Running;
+use super::tables::Tables;
 use detector::FailureDetector;
-use station::{Station, Step};
+use station::Station;
 use value::Value;
-
-// Station `i` asks the failure detector about its coordinator.
-fn ask<V: Value, D: FailureDetector>(s: Station<V>, detector: &D, i: usize) -> (Station<V>, Step<V>)
-    requires { Sound s }
-    ensures { result ≡ after_consulting V.Value (D.FailureDetector.suspected detector.now) i s }
-{
-    let mut next = s;
-    let suspected = detector.suspects(i, usize::from(s.coordinator()));
-    let step = next.consult(suspected);
-    (next, step)
-}
 
 impl Running {
     // What the consultation of station `i` comes to; nothing is changed.
+    #[tactic(auto, unfolding(crate::specs::Consult::consult_planned))]
     fn consult_plan<V: Value, D: FailureDetector>(
         &self,
-        stations: &[Station<V>],
-        bytes: &[u8],
+        tables: Tables<V>,
         detector: &D,
         i: usize,
     ) -> Result<Plan<V>, Refusal>
-        ensures { result ≡ consult_planned V.Value (D.FailureDetector.suspected detector.now) (numbers self.now) stations.now (length bytes.now) i }
+        ensures answer { result ≡ consult_planned V.Value (D.FailureDetector.suspected detector.now) (numbers self.now) tables.entry.stations.now (length tables.entry.bytes.now) i }
+        ensures ready { IfOk result (Ready V.Value (numbers self.now) tables.entry) }
     {
-        self.check_named(stations, bytes, i)?;
-        let (station, step) = ask(stations[i], detector, i);
+        let mut station = self.named(tables, i)?;
+        let suspected = detector.suspects(i, usize::from(station.coordinator()));
+        let step = station.consult(suspected);
         self.admit(self.waiting, &station, &step)?;
         Ok(Plan {
             to: i,
@@ -54,7 +46,11 @@ impl Running {
     ) -> Result<bool, Refusal>
         ensures { after (numbers self.new) stations.new bytes.new result ≡ consulted V.Value (D.FailureDetector.suspected detector.now) (numbers self.old) stations.old bytes.old i }
     {
-        let Plan { to, station, step } = self.consult_plan(stations, bytes, detector, i)?;
+        let Plan { to, station, step } = self.consult_plan(
+            Tables { stations, bytes },
+            detector,
+            i,
+        )?;
         stations[to] = station;
         self.post(bytes, to as u8, &step.sent);
         Ok(step.sent.is_some())

@@ -1,59 +1,42 @@
 // A message as the stations of a run take it.
-ghost use Rattle.std.specs.Prelude.{◌≡◌, ◌≤◌};
-ghost use Rattle.run.specs.Incoming.{content_for, head, incoming_for, origin_for, station_unit};
+ghost use Rattle.std.specs.Prelude.{◌≡◌, ◌<◌, ◌≤◌, IfOk, OnOk};
+ghost use Rattle.message.specs.Format.{head_of};
+ghost use Rattle.run.specs.Incoming.{Known, Origin, content_for, incoming_for, station_unit};
 
-use message::{Head, Message, MessageFault, Reason};
+use message::{Message, MessageFault, Reason};
 use station::{Broadcast, Content};
 use value::Value;
 
-// The units that every message has.
-pub(super) fn head_of<V: Value>(m: &Message<V>) -> Head
-    ensures { result ≡ head m.now }
-{
-    match m {
-        Message::First(head, _, _) => *head,
-        Message::Second(head, _, _) => *head,
-        Message::Suspicion(head) => *head,
-        Message::Decision(head, _) => *head,
-    }
-}
+// Where the units that name stations stand in a message.
+const SENDER: usize = 4;
 
-// That a unit names one of `n` stations.
-fn check_station(number: u32, n: u8, place: usize) -> Result<(), MessageFault>
-    ensures { result ≡ station_unit n place number }
+const RECEIVER: usize = 8;
+
+const ORIGIN: usize = 20;
+
+// The station that a unit names, which has to be one of `n`.
+fn station_among(number: u32, n: u8, place: usize) -> Result<u8, MessageFault>
+    ensures answer { result ≡ station_unit n place number }
+    ensures number { IfOk result (λ station. station ≡ number) }
+    ensures among { OnOk result (number < n) }
 {
     if number >= u32::from(n) {
-        return Err(MessageFault {
-            reason: Reason::Range,
-            place,
-        });
+        return Err(Reason::Range.at(place));
     }
-    Ok(())
-}
-
-// An origin, which has to be one of `n` stations.
-fn origin_among(origin: u32, n: u8) -> Result<u8, MessageFault>
-    ensures { result ≡ origin_for n origin }
-{
-    if origin >= u32::from(n) {
-        return Err(MessageFault {
-            reason: Reason::Range,
-            place: 20,
-        });
-    }
-    Ok(origin as u8)
+    Ok(number as u8)
 }
 
 fn content_among<V: Value>(m: &Message<V>, n: u8) -> Result<Content<V>, MessageFault>
-    ensures { result ≡ content_for n m.now }
+    ensures answer { result ≡ content_for n m.now }
+    ensures origin { IfOk result (Origin n) }
 {
     match m {
         Message::First(_, origin, value) => Ok(Content::First {
-            origin: origin_among(*origin, n)?,
+            origin: station_among(*origin, n, ORIGIN)?,
             value: *value,
         }),
         Message::Second(_, origin, value) => Ok(Content::Second {
-            origin: origin_among(*origin, n)?,
+            origin: station_among(*origin, n, ORIGIN)?,
             value: *value,
         }),
         Message::Suspicion(_) => Ok(Content::Suspicion),
@@ -63,12 +46,13 @@ fn content_among<V: Value>(m: &Message<V>, n: u8) -> Result<Content<V>, MessageF
 
 // The message as one of `n` stations takes it.
 pub(super) fn incoming<V: Value>(m: &Message<V>, n: u8) -> Result<Broadcast<V>, MessageFault>
-    requires { (head m.now).round ≤ 60000 }
-    ensures { result ≡ incoming_for n m.now }
+    requires { (head_of m.now).round ≤ 60000 }
+    ensures answer { result ≡ incoming_for n m.now }
+    ensures known { IfOk result (Known n m.now) }
 {
-    let head = head_of(m);
-    check_station(head.sender, n, 4)?;
-    check_station(head.receiver, n, 8)?;
+    let head = m.head();
+    station_among(head.sender, n, SENDER)?;
+    station_among(head.receiver, n, RECEIVER)?;
     let content = content_among(m, n)?;
     Ok(Broadcast {
         round: head.round as u16,

@@ -1,7 +1,8 @@
 // The limits of a run, tested on what a step would leave and send.
-ghost use Rattle.std.specs.Prelude.{◌≡◌, ◌≤◌};
+ghost use Rattle.std.specs.Prelude.{◌≡◌, ◌≤◌, OnOk};
 ghost use Rattle.run.specs.Admission.{admitted, late};
 ghost use Rattle.run.specs.Numbers.{limit, numbers};
+ghost use Rattle.run.specs.Ready.{Within};
 
 use super::refusal::Refusal;
 use super::running::Running;
@@ -12,14 +13,12 @@ use value::Value;
 pub(super) fn is_late<V: Value>(sent: &Option<Broadcast<V>>) -> bool
     ensures { result ≡ late sent.now }
 {
-    match sent {
-        Some(b) => b.stamp > MAX_STAMP,
-        None => false,
-    }
+    sent.is_some_and(|b| b.stamp > MAX_STAMP)
 }
 
 impl Running {
     // The most messages that the stations of the run may send.
+    #[tactic(auto, using(crate::proofs::Counts::limit_small))]
     fn limit(&self) -> u32
         ensures { result ≡ limit (numbers self.now) }
     {
@@ -28,6 +27,7 @@ impl Running {
     }
 
     // Whether a step may be made, by what it leaves and sends.
+    #[tactic(auto, using(crate::proofs::Counts::limit_small), unfolding(crate::specs::Admission::admitted))]
     pub(super) fn admit<V: Value>(
         &self,
         waiting: u16,
@@ -35,7 +35,8 @@ impl Running {
         step: &Step<V>,
     ) -> Result<(), Refusal>
         requires { waiting ≤ 4096 }
-        ensures { result ≡ admitted (numbers self.now) waiting next.now step.now }
+        ensures answer { result ≡ admitted (numbers self.now) waiting next.now step.now }
+        ensures limits { OnOk result (Within (numbers self.now) waiting next.now.round step.now.sent) }
     {
         let sends = step.sent.is_some();
         if sends && self.sent + u32::from(self.n) > self.limit() {

@@ -10,6 +10,7 @@ use value::Value;
 
 impl Running {
     // Appends what a station sends.
+    #[tactic(auto, using(crate::proofs::Counts::limit_small))]
     pub(super) fn post<V: Value>(
         &mut self,
         bytes: &mut [u8],

@@ -1,5 +1,5 @@
 -- What a printed refusal tells.
-use Rattle.std.specs.Prelude.{◌≡◌, ◌≤◌, Some, Option}
+use Rattle.std.specs.Prelude.{◌≡◌, ◌≤◌, Err, Option}
 use Rattle.lines.specs.declared.syntax.Call.{Call}
 use Rattle.run.specs.declared.refusal.Refusal.{Refusal}
 use Rattle.schedule.specs.declared.refusal.LineRefusal.{LineRefusal}
@@ -11,7 +11,7 @@ use Rattle.schedule.specs.Sessions.{Steps}
 -- what holds of every line in every state
 pub record ExactRefusals : Type 0 where
   -- a refused line leaves the session as it was
-  pub leaves : (s t : State) (k : Option Call) (x : LineRefusal) → Steps s k (Some x) t → t ≡ s
+  pub leaves : (s t : State) (k : Option Call) (x : LineRefusal) → Steps s k (Err x) t → t ≡ s
   -- 0 is the number of no refusal, so it is printed of accepted lines alone
   pub shows : (x : LineRefusal) → 1 ≤ line_number x
   -- 15 is the number of no refusal of a run

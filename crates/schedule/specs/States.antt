@@ -4,6 +4,8 @@ use Rattle.value.specs.declared.number.Number.{Number}
 use Rattle.detector.specs.declared.patient.PatientDetector.{PatientDetector}
 use Rattle.station.specs.declared.state.Station.{Station}
 use Rattle.run.specs.Numbers.{Numbers, gathered, numbers}
+use Rattle.run.specs.declared.gathering.Gathering.{Gathering}
+use Rattle.run.specs.declared.running.Running.{Running}
 use Rattle.schedule.specs.declared.desk.Desk.{Desk}
 use Rattle.schedule.specs.declared.session.Session.{Session}
 use Rattle.schedule.specs.declared.session.Session.TheVariants as session
@@ -24,11 +26,19 @@ pub data State : Type 0 where
 abbrev pub held : Desk → Held
 held desk = record { stations = vec_items desk.stations; bytes = vec_items desk.bytes; detector = desk.detector }
 
+-- the state of a run that gathers proposals, on its desk
+abbrev pub gathering_on : Gathering → Desk → State
+gathering_on run desk = gathering (gathered run) (held desk)
+
+-- the state of a run that takes calls, on its desk
+abbrev pub running_on : Running → Desk → State
+running_on run desk = running (numbers run) (held desk)
+
 -- the state of a session
 abbrev pub state : Session → State
 state session.Idle = idle
-state (session.Gathering run desk) = gathering (gathered run) (held desk)
-state (session.Running run desk) = running (numbers run) (held desk)
+state (session.Gathering run desk) = gathering_on run desk
+state (session.Running run desk) = running_on run desk
 
 -- how many messages wait
 abbrev pub waits : State → ℕ

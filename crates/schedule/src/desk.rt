@@ -7,6 +7,9 @@ use station::Station;
 use std::alloc::{AllocError, Global};
 use value::Number;
 
+// 600 places, each of 24 bytes and those of a number.
+const TABLE: usize = 600 * 32;
+
 // The tables and the failure detector of a run.
 #[derive(Drop)]
 pub struct Desk {
@@ -15,20 +18,17 @@ pub struct Desk {
     pub detector: PatientDetector,
 }
 
-// A record for each of `n` stations, to be filled in by the opening of a run.
-pub(super) fn blank_stations(heap: Global, n: usize) -> Result<Vec<Station<Number>>, AllocError>
-    ensures { IfOk result (λ v. vec_len v ≡ n) }
-{
-    let mut stations = Vec::new(heap);
-    for _ in 0..n {
-        stations.push(Station::new(0, 0))?;
+impl Desk {
+    // A record for each of `n` stations, to be filled in by the opening of a run, and an empty byte table.
+    pub(super) fn new(heap: Global, n: usize, detector: PatientDetector) -> Result<Desk, AllocError>
+        ensures stations { IfOk result (λ d. vec_len d.stations ≡ n) }
+        ensures bytes { IfOk result (λ d. Blank 19200 d.bytes.items) }
+        ensures detector { IfOk result (λ d. d.detector ≡ detector) }
+    {
+        Ok(Desk {
+            stations: vec![in heap; Station::new(0, 0); n]?,
+            bytes: vec![in heap; 0u8; TABLE]?,
+            detector,
+        })
     }
-    Ok(stations)
-}
-
-// A table of `n` bytes with nothing in it.
-pub(super) fn blank_bytes(heap: Global, n: usize) -> Result<Vec<u8>, AllocError>
-    ensures { IfOk result (λ v. Blank n v.items) }
-{
-    vec![in heap; 0u8; n]
 }

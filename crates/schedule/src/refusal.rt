@@ -1,10 +1,10 @@
 // Why a line did nothing.
 ghost use Rattle.std.specs.Prelude.{◌≡◌};
-ghost use Rattle.schedule.specs.Refusals.{line_number, refused};
+ghost use Rattle.schedule.specs.Refusals.{line_number, of_run};
 
 use run::Refusal;
 
-#[derive(Drop)]
+#[derive(Clone, Copy, Debug, PartialEq, Eq)]
 pub enum LineRefusal {
     // the run refused the call
     Run(Refusal),
@@ -12,24 +12,22 @@ pub enum LineRefusal {
     Line,
 }
 
-impl LineRefusal {
-    // The number of the refusal.
-    pub fn number(&self) -> u8
-        ensures { result ≡ line_number self.now }
-    {
-        match self {
-            LineRefusal::Run(refusal) => refusal.number(),
-            LineRefusal::Line => 15,
-        }
+impl From<Refusal> for LineRefusal {
+    ghost from_gives = { λ e x. x ≡ of_run e };
+
+    fn from(refusal: Refusal) -> LineRefusal {
+        LineRefusal::Run(refusal)
     }
 }
 
-// The refusal in what a run answered, if it refused.
-pub(super) fn refusal_in<T: Drop>(answer: Result<T, Refusal>) -> Option<LineRefusal>
-    ensures { result ≡ refused answer }
-{
-    match answer {
-        Ok(_) => None,
-        Err(refusal) => Some(LineRefusal::Run(refusal)),
+// The number of the refusal.
+impl From<LineRefusal> for u8 {
+    ghost from_gives = { λ x n. n ≡ line_number x };
+
+    fn from(refusal: LineRefusal) -> u8 {
+        match refusal {
+            LineRefusal::Run(refusal) => u8::from(refusal),
+            LineRefusal::Line => 15,
+        }
     }
 }

@@ -61,21 +61,7 @@ module _ {V : Type 0} where
 
   -- a station's proposal is its first estimate
   abbrev pub proposing : Station V → V → Station V
-  proposing s v = record {
-    number = s.number;
-    n = s.n;
-    round = s.round;
-    phase = s.phase;
-    estimate = Some v;
-    origin = s.origin;
-    mark = s.mark;
-    heard = s.heard;
-    doubts = s.doubts;
-    stamp = s.stamp;
-    sent = s.sent;
-    decision = s.decision;
-    crashed = s.crashed;
-  }
+  proposing s v = record s { estimate = Some v }
 
   abbrev pub coordinator : Station V → ℕ
   coordinator s = s.round % s.n
@@ -94,142 +80,30 @@ module _ {V : Type 0} where
 
   -- records that differ in one respect
   abbrev pub at_stamp : Station V → ℕ → Station V
-  at_stamp s t = record {
-    number = s.number;
-    n = s.n;
-    round = s.round;
-    phase = s.phase;
-    estimate = s.estimate;
-    origin = s.origin;
-    mark = s.mark;
-    heard = s.heard;
-    doubts = s.doubts;
-    stamp = t;
-    sent = s.sent;
-    decision = s.decision;
-    crashed = s.crashed;
-  }
+  at_stamp s t = record s { stamp = t }
 
   abbrev pub having_heard : Station V → ℕ → Station V
-  having_heard s h = record {
-    number = s.number;
-    n = s.n;
-    round = s.round;
-    phase = s.phase;
-    estimate = s.estimate;
-    origin = s.origin;
-    mark = s.mark;
-    heard = h;
-    doubts = s.doubts;
-    stamp = s.stamp;
-    sent = s.sent;
-    decision = s.decision;
-    crashed = s.crashed;
-  }
+  having_heard s h = record s { heard = h }
 
   abbrev pub having_doubts : Station V → ℕ → Station V
-  having_doubts s d = record {
-    number = s.number;
-    n = s.n;
-    round = s.round;
-    phase = s.phase;
-    estimate = s.estimate;
-    origin = s.origin;
-    mark = s.mark;
-    heard = s.heard;
-    doubts = d;
-    stamp = s.stamp;
-    sent = s.sent;
-    decision = s.decision;
-    crashed = s.crashed;
-  }
+  having_doubts s d = record s { doubts = d }
 
   abbrev pub holding : Station V → Option V → ℕ → Station V
-  holding s e o = record {
-    number = s.number;
-    n = s.n;
-    round = s.round;
-    phase = s.phase;
-    estimate = e;
-    origin = o;
-    mark = s.mark;
-    heard = s.heard;
-    doubts = s.doubts;
-    stamp = s.stamp;
-    sent = s.sent;
-    decision = s.decision;
-    crashed = s.crashed;
-  }
+  holding s e o = record s { estimate = e; origin = o }
 
   abbrev pub in_phase : Station V → Phase → Station V
-  in_phase s p = record {
-    number = s.number;
-    n = s.n;
-    round = s.round;
-    phase = p;
-    estimate = s.estimate;
-    origin = s.origin;
-    mark = s.mark;
-    heard = s.heard;
-    doubts = s.doubts;
-    stamp = s.stamp;
-    sent = s.sent;
-    decision = s.decision;
-    crashed = s.crashed;
-  }
+  in_phase s p = record s { phase = p }
 
   abbrev pub deciding : Station V → Option V → Station V
-  deciding s d = record {
-    number = s.number;
-    n = s.n;
-    round = s.round;
-    phase = s.phase;
-    estimate = s.estimate;
-    origin = s.origin;
-    mark = s.mark;
-    heard = s.heard;
-    doubts = s.doubts;
-    stamp = s.stamp;
-    sent = s.sent;
-    decision = d;
-    crashed = s.crashed;
-  }
+  deciding s d = record s { decision = d }
 
   -- one broadcast more
   abbrev pub sent_all : Station V → Station V
-  sent_all s = record {
-    number = s.number;
-    n = s.n;
-    round = s.round;
-    phase = s.phase;
-    estimate = s.estimate;
-    origin = s.origin;
-    mark = s.mark;
-    heard = s.heard;
-    doubts = s.doubts;
-    stamp = s.stamp;
-    sent = s.sent + s.n;
-    decision = s.decision;
-    crashed = s.crashed;
-  }
+  sent_all s = record s { sent = s.sent + s.n }
 
   -- a round as it begins, but for what is sent
   abbrev pub in_round : Station V → ℕ → Station V
-  in_round s r = record {
-    number = s.number;
-    n = s.n;
-    round = r;
-    phase = phase.First;
-    estimate = s.estimate;
-    origin = s.number;
-    mark = false;
-    heard = 0;
-    doubts = 0;
-    stamp = s.stamp;
-    sent = s.sent;
-    decision = s.decision;
-    crashed = s.crashed;
-  }
+  in_round s r = record s { round = r; phase = phase.First; origin = s.number; mark = false; heard = 0; doubts = 0 }
 
   abbrev pub decided : Station V → ℕ → V → ℕ → Station V × Step V
   decided s t v r =
@@ -324,21 +198,7 @@ module _ {V : Type 0} where
   due s suspected = in_first s.phase && (not (is_some s.decision) && not s.mark && suspected)
 
   abbrev pub marked : Station V → Station V
-  marked s = record {
-    number = s.number;
-    n = s.n;
-    round = s.round;
-    phase = s.phase;
-    estimate = s.estimate;
-    origin = s.origin;
-    mark = true;
-    heard = s.heard;
-    doubts = s.doubts;
-    stamp = s.stamp;
-    sent = s.sent;
-    decision = s.decision;
-    crashed = s.crashed;
-  }
+  marked s = record s { mark = true }
 
   abbrev pub consult_rule : Station V → Bool → Station V × Step V
   consult_rule s suspected =

@@ -1,7 +1,7 @@
 // What a station sends to every station, and what reaches it again from another.
 
 // What a message says, by its kind.
-#[derive(Clone, Copy)]
+#[derive(Clone, Copy, Debug, PartialEq, Eq)]
 pub enum Content<V> {
     First { origin: u8, value: V },
     Second { origin: u8, value: V },
@@ -10,7 +10,7 @@ pub enum Content<V> {
 }
 
 // A message without its sender and receiver.
-#[derive(Clone, Copy)]
+#[derive(Clone, Copy, Debug, PartialEq, Eq)]
 pub struct Broadcast<V> {
     pub round: u16,
     pub stamp: u32,

@@ -4,6 +4,7 @@
 mod broadcast;
 mod state;
 mod step;
+mod turn;
 
 pub use broadcast::{Broadcast, Content};
 pub use state::{Phase, Station};

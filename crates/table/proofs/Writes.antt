@@ -11,7 +11,7 @@ use Rattle.message.proofs.RoundTrips.{length-encoded}
 use Rattle.table.specs.Messages.{size, written}
 
 module _ {V : Type 0} (of : Ghosts V) where
-  pub size-within : (m : Message V) → size_of of m ≤ size of
+  size-within : (m : Message V) → size_of of m ≤ size of
   size-within (message.First h o v) = omega arith
   size-within (message.Second h o v) = omega arith
   size-within (message.Suspicion h) = omega arith
@@ -30,7 +30,7 @@ module _ {V : Type 0} (of : Ghosts V) where
       ∙ ap (λ xs. code ++ drop (length code) xs) z
       ∙ ap (λ ys. code ++ ys) (drop-replicate (length code) (size of) 0)
 
-  module _ (sized : (v : V) → length (of.code v) ≡ of.wide) where
+  module _ (sized : (v : V) → length (of.code v) ≡ of.WIDTH) where
     pub length-written : (m : Message V) → length (written of m) ≡ size of
     unfolding written
     length-written m =

@@ -30,7 +30,7 @@ module _ {V : Type 0} where
 module _ {V : Type 0} (of : Ghosts V) where
   -- the size of a place
   abbrev pub size : ℕ
-  size = 24 + of.wide
+  size = 24 + of.WIDTH
 
   -- a place with a message: its bytes, and zeros
   unfoldable pub written : Message V → List ℕ

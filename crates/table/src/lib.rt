@@ -2,13 +2,14 @@
 #![tactic(auto)]
 
 ghost use Rattle.std.specs.Prelude.{◌≡◌, ◌+◌, ◌-◌, ◌*◌, ◌<◌, ◌≤◌, length, replicate};
-ghost use Rattle.table.specs.Places.{place, put, taken_out};
+ghost use Rattle.table.specs.Places.{put, taken_out};
 
 mod places;
 
 pub use places::{append, place_size, read_place};
 
 // Sets the part at `at` to 0.
+#[tactic(auto, using(crate::proofs::Puts::filled_put))]
 pub fn clear(bytes: &mut [u8], at: usize, size: usize)
     requires { at + size ≤ length bytes.old }
     ensures { bytes.new ≡ put bytes.old at (replicate size 0) }
@@ -16,23 +17,14 @@ pub fn clear(bytes: &mut [u8], at: usize, size: usize)
     bytes[at..at + size].fill(0);
 }
 
-// Copies the part at `from` over the one at `to`, which begins no later.
-fn move_down(bytes: &mut [u8], from: usize, to: usize, size: usize)
-    requires { (to ≤ from) × (from + size ≤ length bytes.old) }
-    ensures { bytes.new ≡ put bytes.old to (place bytes.old from size) }
-{
-    for i in 0..size {
-        bytes[to + i] = bytes[from + i];
-    }
-}
-
 // Takes the message at place `k` out of the `waiting` ones.
+#[tactic(auto, using(crate::proofs::Puts::copied, crate::proofs::Rows::row_within))]
 pub fn take_out(bytes: &mut [u8], size: usize, k: usize, waiting: usize)
     requires { (k < waiting) × (waiting * size ≤ length bytes.old) }
     ensures { bytes.new ≡ taken_out bytes.old size k (waiting - 1) }
 {
     let last = (waiting - 1) * size;
     let at = k * size;
-    move_down(bytes, last, at, size);
+    bytes.copy_within(last..last + size, at);
     clear(bytes, last, size);
 }

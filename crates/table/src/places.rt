@@ -12,31 +12,20 @@ use value::Value;
 pub fn place_size<V: Value>() -> usize
     ensures { result ≡ size V.Value }
 {
-    24 + V::width()
-}
-
-// The message that the bytes of a place begin with.
-fn read_part<V: Value>(part: &[u8]) -> Result<Message<V>, MessageFault>
-    ensures { result ≡ understood V.Value part.now }
-{
-    let m = message::read::<V>(part)?;
-    match message::open::<V>(m) {
-        Ok(m) => Ok(m),
-        Err(fault) => Err(MessageFault {
-            reason: Reason::Value(fault),
-            place: 0,
-        }),
-    }
+    24 + V::WIDTH
 }
 
 // The message at place `k`.
+#[tactic(auto, using(crate::proofs::Rows::part_length), unfolding(crate::specs::Messages::understood))]
 pub fn read_place<V: Value>(bytes: &[u8], k: usize) -> Result<Message<V>, MessageFault>
     requires { (k + 1) * size V.Value ≤ length bytes.now }
     ensures { result ≡ understood V.Value (place bytes.now (k * size V.Value) (size V.Value)) }
 {
     let size = place_size::<V>();
     let at = k * size;
-    read_part::<V>(&bytes[at..at + size])
+    let part = &bytes[at..at + size];
+    let m = message::read::<V>(part)?;
+    message::open::<V>(m).map_err(|fault| Reason::Value(fault).at(0))
 }
 
 // The message of a broadcast from one station to another.
@@ -57,30 +46,27 @@ fn address<V: Value>(b: &Broadcast<V>, sender: u8, receiver: u8) -> Message<V>
     }
 }
 
-// Fills a place.
-fn write_part<V: Value>(part: &mut [u8], m: &Message<V>)
-    requires { (length part.old ≡ size V.Value) × (all_within m.now ≡ Ok tt) }
-    ensures { part.new ≡ written V.Value m.now }
-{
-    part.fill(0);
-    let _ = m.write(part);
-}
-
-// Fills place `k`.
+// Fills place `k`: the message, which fits and is in its ranges, and zeros behind it.
+#[tactic(auto, using(crate::proofs::Puts::filled, crate::proofs::Puts::putMid_put, crate::proofs::Writes::written_is))]
 fn write_place<V: Value>(bytes: &mut [u8], k: usize, m: &Message<V>)
-    requires { ((k + 1) * size V.Value ≤ length bytes.old) × (all_within m.now ≡ Ok tt) }
+    requires room { (k + 1) * size V.Value ≤ length bytes.old }
+    requires ranged { all_within m.now ≡ Ok tt }
     ensures { bytes.new ≡ put bytes.old (k * size V.Value) (written V.Value m.now) }
 {
     let size = place_size::<V>();
     let at = k * size;
-    write_part(&mut bytes[at..at + size], m);
+    let part = &mut bytes[at..at + size];
+    part.fill(0);
+    let _ = m.write(part);
 }
 
 // Appends a broadcast, one message to each of `n` stations, behind the `waiting` ones.
+#[tactic(auto, using(crate::proofs::Rows::row_within), unfolding(crate::specs::Messages::appended))]
 pub fn append<V: Value>(bytes: &mut [u8], waiting: usize, n: u8, sender: u8, b: &Broadcast<V>)
     requires { ((waiting + n) * size V.Value ≤ length bytes.old) × (((j : ℕ) → j < n → all_within (addressed sender b.now j) ≡ Ok tt)) }
     ensures { bytes.new ≡ appended V.Value bytes.old waiting n sender b.now }
 {
+    // The places are counted, since an invariant cannot name the bytes that `chunks_exact_mut` has lent.
     for j in 0..n {
         let m = address(b, sender, j);
         write_place(bytes, waiting + usize::from(j), &m);

@@ -1,14 +1,19 @@
-use Rattle.std.proofs.Common.{◌≡◌, get_or, sym, ◌∙◌, add-one, arith}
-use native.Mathlib.Nat.{sub-zero}
+use Rattle.std.proofs.Common.{rules, sym, ap, ◌∙◌}
+use borrow.Author.Tests.{tests}
 use Rattle.std.proofs.lemmas.List.{take_rest}
-use Rattle.lines.proofs.Fields.{split_at, split_none, separator_from}
+use Rattle.std.proofs.lemmas.Iterator.{IsFirst-from_position, YieldsList-from_slice}
+use Rattle.lines.specs.Lines.{seen_pair}
+use Rattle.lines.proofs.Fields.{IsSeparator, IsOther, cut, split_cut}
 use Rattle.lines.proofs.line.split_field.Goals as goal
 
-pub returns-in-Separator : goal.returns-in-Separator
-returns-in-Separator c =
-    let at : get_or c.args.text.now c.loop-i.i 0 ≡ 44 = sym c.from.ensures ∙ separator_from _ c.in-Separator.ensures in
-    let found = split_at c.args.text.now c.loop-i.i c.loop-i-test.true c.loop-i.invariant at in
-    simp (sub-zero, take_rest, add-one) (sym found)
+pub returns-in_err-i : goal.returns-in_err-i
+returns-in_err-i c =
+    let text = c.args.text.now in
+    let first = IsFirst-from_position _ _ _ IsSeparator IsOther c.position.ensures.ran (YieldsList-from_slice text cc) (λ x q k. search (rules, tests)) (λ x q k. search (rules, tests)) in
+    ap seen_pair c.from_residual.ensures ∙ sym (split_cut text c.position.result first ∙ ap (cut text) c.in_err-i.was)
 
 pub returns : goal.returns
-returns c = sym (split_none c.args.text.now (λ k l. c.loop-i.invariant k (omega arith)))
+returns c =
+    let text = c.args.text.now in
+    let first = IsFirst-from_position _ _ _ IsSeparator IsOther c.position.ensures.ran (YieldsList-from_slice text cc) (λ x q k. search (rules, tests)) (λ x q k. search (rules, tests)) in
+    simp take_rest (sym (split_cut text c.position.result first ∙ ap (cut text) c.in_ok-i.was))

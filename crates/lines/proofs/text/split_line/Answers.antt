@@ -1,22 +1,18 @@
-use Rattle.std.proofs.Common.{◌≡◌, suc, ◌+◌, length, sym, ap, ◌∙◌, arith, below_more}
-use native.Mathlib.Nat.{sub-zero}
-use Rattle.std.proofs.lemmas.List.{take_rest, drop_all}
-use Rattle.lines.specs.Lines.{at_end}
-use Rattle.lines.proofs.Texts.{first_at, first_none}
+use Rattle.std.proofs.Common.{rules, sym, ap, ◌∙◌}
+use borrow.Author.Tests.{tests}
+use Rattle.std.proofs.lemmas.List.{take_rest}
+use Rattle.std.proofs.lemmas.Iterator.{IsFirst-from_position}
+use Rattle.lines.proofs.Texts.{Ends, Goes, YieldsList-from_pairs, cut, first_line_cut}
 use Rattle.lines.proofs.text.split_line.Goals as goal
 
-pub loop-i-preserved : goal.loop-i-preserved
-loop-i-preserved c =
-    below_more _ _ c.loop-i.invariant (ap at_end (sym (take_rest c.args.text.now c.loop-i.i)) ∙ sym c.if-at_line_end.ensures)
+pub returns-in-Some : goal.returns-in-Some
+returns-in-Some c =
+    let text = c.args.text.now in
+    let first = IsFirst-from_position _ _ _ Ends Goes c.position.ensures.ran (YieldsList-from_pairs text (cc) (cc)) (λ x q k. search (rules, tests)) (λ x q k. search (rules, tests)) in
+    simp take_rest (sym (first_line_cut text c.position.result first ∙ ap (cut text) c.in-Some.is))
 
-pub returns-then-at_line_end : goal.returns-then-at_line_end
-returns-then-at_line_end c =
-    let here = ap at_end (sym (take_rest c.args.text.now c.loop-i.i)) ∙ sym c.if-at_line_end.ensures in
-    let found = first_at c.args.text.now c.loop-i.i c.loop-i.invariant here in
-    let two : c.loop-i.i + 2 ≡ suc (suc c.loop-i.i) = omega arith in
-    simp (sub-zero, take_rest, two) (sym found)
-
-pub returns : goal.returns
-returns c =
-    let none = first_none c.args.text.now (λ k l. c.loop-i.invariant k (omega arith)) in
-    ap (λ l. (c.args.text.now, l)) (take_rest c.args.text.now (length c.args.text.now) ∙ drop_all (length c.args.text.now) c.args.text.now (omega arith)) ∙ sym none
+pub returns-in-None : goal.returns-in-None
+returns-in-None c =
+    let text = c.args.text.now in
+    let first = IsFirst-from_position _ _ _ Ends Goes c.position.ensures.ran (YieldsList-from_pairs text (cc) (cc)) (λ x q k. search (rules, tests)) (λ x q k. search (rules, tests)) in
+    sym (first_line_cut text c.position.result first ∙ ap (cut text) c.in-None.is)

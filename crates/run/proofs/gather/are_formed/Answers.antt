@@ -1,21 +1,16 @@
-use Rattle.std.proofs.Common.{◌≡◌, true, false, get_or, sym, ap, ◌∙◌, arith}
+use Rattle.std.proofs.Common.{ap, ◌∙◌, arith, rules}
+use Rattle.std.proofs.lemmas.Iterator.{YieldsList-from_range, YieldsList-from_slice, YieldsList-from_zip}
+use Rattle.std.proofs.lemmas.Iterator.Search.{all_from_yields_List}
+use Rattle.std.specs.List.{list_all}
 use Rattle.station.specs.Rule.{formed}
-use Rattle.run.proofs.Every.{all_done, all_next}
+use Rattle.run.proofs.Every.{numbered}
 use Rattle.run.proofs.gather.are_formed.Goals as goal
 
-pub returns-then-not-is_formed : goal.returns-then-not-is_formed
-returns-then-not-is_formed g c =
-    let xs = c.args.stations.now in
-    let s = c.index-stations-from.result in
-    let same : c.from.result ≡ c.loop-i.i = omega arith in
-    all_next (formed c.args.n) xs c.loop-i.i s false (omega arith) (c.index-stations-from.is ∙ ap (λ k. get_or xs k s) same) (sym c.if-not-is_formed.ensures) c.loop-i.invariant
-
-pub loop-i-preserved : goal.loop-i-preserved
-loop-i-preserved g c =
-    let xs = c.args.stations.now in
-    let s = c.index-stations-from.result in
-    let same : c.from.result ≡ c.loop-i.i = omega arith in
-    all_next (formed c.args.n) xs c.loop-i.i s true (omega arith) (c.index-stations-from.is ∙ ap (λ k. get_or xs k s) same) (sym c.if-not-is_formed.ensures) c.loop-i.invariant
-
 pub returns : goal.returns
-returns g c = all_done (formed c.args.n) c.args.stations.now c.loop-i.i (omega arith) c.loop-i.invariant
+returns g c =
+    let n = c.args.n in
+    let ss = c.args.stations.now in
+    all_from_yields_List (λ p. formed n p.0 p.1) c.all.new.self _ c.all.result c.all.ensures.ran
+    (YieldsList-from_zip (YieldsList-from_range 0 n n (search rules) (omega arith)) (YieldsList-from_slice ss (search rules)))
+    (λ p b q k. search rules)
+    ∙ ap (list_all (λ p. formed n p.0 p.1)) (numbered 0 ss n c.requires)

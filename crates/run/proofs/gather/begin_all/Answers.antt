@@ -1,24 +1,23 @@
 use Rattle.std.proofs.Common.{◌≢◌, sym, ap, ◌∙◌, subst, arith, get_or-set_other, get_or-set_same, below_more}
-use Rattle.std.proofs.lemmas.List.{get_or_read}
+use Rattle.std.proofs.lemmas.List.{get_or_default}
 use Rattle.station.specs.Rule.{Sound, started}
 use Rattle.run.specs.Records.{blank}
 use Rattle.run.proofs.gather.begin_all.Goals as goal
 
-pub begin-requires : goal.begin-requires
-begin-requires g c =
-    let xs = c.loop-i.stations in
-    let i = c.loop-i.i in
-    let s = get_or_read xs i c.index-stations-i.result (omega arith) c.index-stations-i.is blank in
-    subst Sound (sym (s ∙ c.loop-i.invariant.1 i (omega arith))) (c.requires i (omega arith))
+pub begin_first-requires : goal.begin_first-requires
+begin_first-requires g c =
+    let i = c.loop-s.s-index in
+    let s = get_or_default c.loop-s.stations i c.s-item.result blank (omega arith) in
+    subst Sound (sym (s ∙ c.loop-s.invariant.1 i (omega arith))) (c.requires i (omega arith))
 
-pub loop-i-preserved : goal.loop-i-preserved
-loop-i-preserved g c =
-    let xs = c.loop-i.stations in
-    let i = c.loop-i.i in
-    let s = get_or_read xs i c.index-stations-i.result (omega arith) c.index-stations-i.is blank in
-    let b = c.begin.result in (
+pub loop-s-preserved : goal.loop-s-preserved
+loop-s-preserved g c =
+    let xs = c.loop-s.stations in
+    let i = c.loop-s.s-index in
+    let s = get_or_default xs i c.s-item.result blank (omega arith) in
+    let b = c.begin_first.new.self in (
       below_more _ _
-          (λ k h. let ne : k ≢ i = omega arith in get_or-set_other xs i k b blank ne ∙ c.loop-i.invariant.0 k h)
-          (get_or-set_same xs i b blank (omega arith) ∙ c.begin.ensures ∙ ap (λ x. (started x).0) (s ∙ c.loop-i.invariant.1 i (omega arith))),
-      λ k h. let ne : k ≢ i = omega arith in get_or-set_other xs i k b blank ne ∙ c.loop-i.invariant.1 k (omega arith),
+          (λ k h. let ne : k ≢ i = omega arith in get_or-set_other xs i k b blank ne ∙ c.loop-s.invariant.0 k h)
+          (get_or-set_same xs i b blank (omega arith) ∙ c.begin_first.ensures.record ∙ ap (λ x. (started x).0) (s ∙ c.loop-s.invariant.1 i (omega arith))),
+      λ k h. let ne : k ≢ i = omega arith in get_or-set_other xs i k b blank ne ∙ c.loop-s.invariant.1 k (omega arith),
     )

@@ -4,13 +4,9 @@ use Rattle.message.specs.RoundTrips.{ComesBack}
 use Rattle.message.proofs.RoundTrips.{comes_back}
 use Rattle.message.proofs.types.Message.write.Goals as goal
 
-pub returns : goal.returns
-returns g c =
+pub returns-clause-back : goal.returns-clause-back
+returns-clause-back g c =
     let laws = g.met.V.Value in
     let m = c.args.self.now in
     let fits : all_within m ≡ Ok tt = search rules in
-    record {
-      answer = search rules;
-      left = c.put.ensures;
-      back = subst (λ (s : List ℕ). ComesBack g.V.Value m s) (sym c.put.ensures) (comes_back g.V.Value laws.sized laws.reads laws.writes m _ fits);
-    }
+    subst (λ (s : List ℕ). ComesBack g.V.Value m s) (sym c.put.ensures) (comes_back g.V.Value laws.sized laws.reads laws.writes m _ fits)

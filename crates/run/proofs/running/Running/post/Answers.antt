@@ -1,8 +1,7 @@
-use Rattle.std.proofs.Common.{◌+◌, ◌*◌, ◌≤◌, length, subst, mul-le-mul_right, arith, rules}
+use Rattle.std.proofs.Common.{◌+◌, ◌*◌, ◌≤◌, length, subst, mul-le-mul_right, arith}
 use Rattle.run.specs.Posting.{Postable}
 use Rattle.run.specs.Numbers.{numbers}
 use Rattle.table.specs.Messages.{size}
-use Rattle.run.proofs.Counts.{limit_small}
 use Rattle.run.proofs.running.Running.post.Goals as goal
 
 pub append-requires : goal.append-requires
@@ -11,8 +10,3 @@ append-requires g c =
     let h = subst (Postable g.V.Value (numbers run) (length c.args.bytes.now) c.args.sender) c.in-Some.is c.requires in
     let m : (c.from.result + run.n) * size g.V.Value ≤ run.places * size g.V.Value = mul-le-mul_right (size g.V.Value) (omega (arith, h.0)) in
     (omega (arith, m, h.1), h.3)
-
-pub overflow_add-self-in-Some : goal.overflow_add-self-in-Some
-overflow_add-self-in-Some g c =
-    let s = limit_small c.args.self.now.n (omega arith) in
-    search rules
