@@ -21,6 +21,7 @@ impl From<DetectorError> for u8 {
     }
 }
 
+// The words that docs/RULES.md has for these numbers; a run, which has refusals of its own, says them too.
 impl fmt::Display for DetectorError {
     ghost output = { λ error. Some (error_words error) };
 

@@ -3,7 +3,7 @@ ghost use Rattle.detector.specs.Answers.{RefusesStations, is_pair};
 
 use crate::DetectorError;
 
-pub(crate) const FEWEST_STATIONS: usize = 3;
+const FEWEST_STATIONS: usize = 3;
 
 pub(crate) const MOST_STATIONS: usize = 32;
 

@@ -13,6 +13,7 @@ impl fmt::Display for InWords<Number> {
     }
 }
 
+// The words of a map in this program, without commas: another program has words of its own.
 impl fmt::Display for InWords<GradedMap> {
     fn fmt<W: fmt::Write>(&self, f: &mut fmt::Formatter<W>) -> fmt::Result {
         let GradedMap { map, grade, verso } = self.0;
@@ -56,6 +57,7 @@ where
     InWords<V>: fmt::Display,
 {
     fn fmt<W: fmt::Write>(&self, f: &mut fmt::Formatter<W>) -> fmt::Result {
+        // First and Second have an arm each: two documented kinds of one shape
         match self.0 {
             Message::First(head, origin, value) => {
                 write!(f, "first {}", InWords((head, origin, value)))

@@ -1,12 +1,12 @@
 -- A line reads exactly when its fields say a call.
 use Rattle.std.proofs.Common.{◌≡◌, ℕ, ◌^◌, ◌<◌, true, not, ◌&&◌, eqb, ltb, leb, List, [], ◌∷◌, ◌++◌, length, Some, None, codes, decimal, Option, sym, refl, ap, ◌∙◌, subst, ⊎_elim, arith, rules}
 use Rattle.std.proofs.lemmas.Bool.{eqb-true, le-leb, lt-ltb, cond-true, cond-false, cases_Bool, and_parts, and_from, not-true, leb-true, ne_eqb}
+use Rattle.std.proofs.lemmas.Option.{option_and_then_some}
 use Rattle.std.proofs.lemmas.Str.Parse.{IsNumeralModel, numerals_by_fold}
 use Rattle.std.proofs.lemmas.Fmt.{digits_decimal, digits_value-decimal, length-decimal-le, decimal_nonempty}
-use Rattle.lines.specs.declared.syntax.Word.{Word}
 use Rattle.lines.specs.declared.syntax.Call.{Call}
-use Rattle.lines.specs.Lines.{is_digit, all_digits, value_after, value, is_number, number_of, split, ◌>>=◌, longer, word_of, call_of, reading}
-use Rattle.lines.specs.declared.syntax.Word.TheVariants as w
+use Rattle.lines.specs.Lines.{Word, is_digit, all_digits, value_after, value, is_number, number_of, split, ◌>>=◌, longer, word_of, call_of, reading}
+use Rattle.lines.specs.Lines as w
 use Rattle.lines.specs.declared.syntax.Call.TheVariants as c
 use Rattle.lines.specs.Exact.{plain, Says, ExactReading, written, shown, Small}
 
@@ -31,8 +31,7 @@ none_some : {A : Type 0} (x : A) → ◌≡◌ {A = Option A} None (Some x) → 
 none_some x e = cc
 
 then_some : {A B : Type 0} (o : Option A) (f : A → Option B) (y : B) → (o >>= f) ≡ Some y → (x : A) × ((o ≡ Some x) × (f x ≡ Some y))
-then_some None f y e = cc
-then_some (Some x) f y e = (x, (refl, e))
+then_some o f y e = option_and_then_some f o y e (λ x h k. (x, (h, k)))
 
 abbrev Cut : Type 0
 Cut = List ℕ × List ℕ

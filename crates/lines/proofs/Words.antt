@@ -1,21 +1,19 @@
--- A text that has a word's bytes is the word.
-use Rattle.std.proofs.Common.{◌≡◌, ℕ, suc, List, [], ◌∷◌, length, get_or, refl, ap, sym, arith}
-use Rattle.lines.specs.Lines.{word_of}
+-- A text that has a word's bytes names the word's calls.
+use Rattle.std.proofs.Common.{◌≡◌, ℕ, zero, suc, ◌+◌, ◌<◌, List, [], ◌∷◌, length, get_or, refl, ap, ◌∙◌, arith}
+use Rattle.std.proofs.lemmas.List.{ext_get_or}
+use Rattle.lines.specs.Lines.{call_named}
 
 -- the bytes of a text from place i on begin with these
 abbrev pub Reads : List ℕ → ℕ → List ℕ → Type 0
 Reads s i [] = Unit {0}
 Reads s i (x ∷ xs) = (get_or s i 0 ≡ x) × Reads s (suc i) xs
 
-rest_reads : (c : ℕ) (s : List ℕ) (i : ℕ) (w : List ℕ) → Reads (c ∷ s) (suc i) w → Reads s i w
-rest_reads c s i [] h = tt
-rest_reads c s i (x ∷ xs) h = (h.0, rest_reads c s (suc i) xs h.1)
+reads_at : (s w : List ℕ) (i j k : ℕ) → Reads s i w → k < length w → j ≡ i + k → get_or s j 0 ≡ get_or w k 0
+reads_at s [] i j k h l e = absurd (omega arith)
+reads_at s (x ∷ xs) i j zero h l e = let same : j ≡ i = omega arith in ap (λ n. get_or s n 0) same ∙ h.0
+reads_at s (x ∷ xs) i j (suc k) h l e = reads_at s xs (suc i) j k h.1 (omega arith) (omega arith)
 
-same_word : (s w : List ℕ) → length s ≡ length w → Reads s 0 w → s ≡ w
-same_word [] [] l h = refl
-same_word (c ∷ s) (x ∷ xs) l h = let rest = same_word s xs (omega arith) (rest_reads c s 0 xs h.1) in cc
-same_word [] (x ∷ xs) l h = absurd (omega arith)
-same_word (c ∷ s) [] l h = absurd (omega arith)
-
-pub named : (s w : List ℕ) → length s ≡ length w → Reads s 0 w → word_of w ≡ word_of s
-named s w l h = sym (ap word_of (same_word s w l h))
+pub named : (s w : List ℕ) (a b j k : ℕ) → length s ≡ length w → Reads s 0 w → a ≡ j → b ≡ k → call_named w j k ≡ call_named s a b
+named s w a b j k l h d e =
+    let same = ext_get_or 0 s w l (λ i m. reads_at s w 0 i i h (omega arith) (omega arith)) in
+    rw (same, d, e) refl

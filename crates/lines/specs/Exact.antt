@@ -1,9 +1,8 @@
 -- When a line reads, in terms of its fields, and the line that writes a call.
 use Rattle.std.specs.Prelude.{◌≡◌, ℕ, ◌^◌, ◌<◌, Bool, true, not, ◌&&◌, List, [], ◌∷◌, ◌++◌, Some, codes, decimal, ◌==◌}
-use Rattle.lines.specs.declared.syntax.Word.{Word}
 use Rattle.lines.specs.declared.syntax.Call.{Call}
 use Rattle.lines.specs.declared.syntax.Call.TheVariants as c
-use Rattle.lines.specs.Lines.{number_of, word_of, call_of, reading}
+use Rattle.lines.specs.Lines.{Word, number_of, word_of, call_of, reading}
 
 -- no separator stands in the text
 abbrev pub plain : List ℕ → Bool

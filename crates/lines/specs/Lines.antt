@@ -4,8 +4,6 @@ use Rattle.std.specs.Borrow.{Bor}
 use Rattle.std.specs.Str.{bytes_eq}
 use Rattle.lines.specs.declared.syntax.Symbol.{Symbol}
 use Rattle.lines.specs.declared.syntax.Symbol.TheVariants.{Digit, Separator, Other}
-use Rattle.lines.specs.declared.syntax.Word.{Word}
-use Rattle.lines.specs.declared.syntax.Word.TheVariants as w
 use Rattle.lines.specs.declared.syntax.Call.{Call}
 use Rattle.lines.specs.declared.syntax.Call.TheVariants as c
 
@@ -65,16 +63,26 @@ split (c ∷ cs) = cond (c == 44) (Some ([], cs)) (split cs >>= longer c)
 abbrev pub seen_pair : Option (Bor (List ℕ) × Bor (List ℕ)) → Option (List ℕ × List ℕ)
 seen_pair parts = option_map (λ p. (p.0.now, p.1.now)) parts
 
+-- the word in front of a line
+pub data Word : Type 0 where
+  Open : Word
+  Propose : Word
+  Start : Word
+  Deliver : Word
+  Consult : Word
+  Crash : Word
+  Pass : Word
+
 -- the word that a field names
 abbrev pub word_of : List ℕ → Option Word
 word_of s =
-    cond (bytes_eq s (codes "open")) (Some w.Open)
-    (cond (bytes_eq s (codes "propose")) (Some w.Propose)
-    (cond (bytes_eq s (codes "start")) (Some w.Start)
-    (cond (bytes_eq s (codes "deliver")) (Some w.Deliver)
-    (cond (bytes_eq s (codes "consult")) (Some w.Consult)
-    (cond (bytes_eq s (codes "crash")) (Some w.Crash)
-    (cond (bytes_eq s (codes "pass")) (Some w.Pass) None))))))
+    cond (bytes_eq s (codes "open")) (Some Open)
+    (cond (bytes_eq s (codes "propose")) (Some Propose)
+    (cond (bytes_eq s (codes "start")) (Some Start)
+    (cond (bytes_eq s (codes "deliver")) (Some Deliver)
+    (cond (bytes_eq s (codes "consult")) (Some Consult)
+    (cond (bytes_eq s (codes "crash")) (Some Crash)
+    (cond (bytes_eq s (codes "pass")) (Some Pass) None))))))
 
 -- a call whose number has to be 0
 abbrev pub if_zero : ℕ → Option Call → Option Call
@@ -82,13 +90,17 @@ if_zero n c = cond (n == 0) c None
 
 -- the call of a word and two numbers
 abbrev pub call_of : Word → ℕ → ℕ → Option Call
-call_of w.Open a b = Some (c.Open a b)
-call_of w.Propose a b = Some (c.Propose a b)
-call_of w.Start a b = if_zero a (if_zero b (Some c.Start))
-call_of w.Deliver a b = if_zero b (Some (c.Deliver a))
-call_of w.Consult a b = if_zero b (Some (c.Consult a))
-call_of w.Crash a b = if_zero b (Some (c.Crash a))
-call_of w.Pass a b = if_zero a (if_zero b (Some c.Pass))
+call_of Open a b = Some (c.Open a b)
+call_of Propose a b = Some (c.Propose a b)
+call_of Start a b = if_zero a (if_zero b (Some c.Start))
+call_of Deliver a b = if_zero b (Some (c.Deliver a))
+call_of Consult a b = if_zero b (Some (c.Consult a))
+call_of Crash a b = if_zero b (Some (c.Crash a))
+call_of Pass a b = if_zero a (if_zero b (Some c.Pass))
+
+-- the call of a text that names a word, and two numbers
+abbrev pub call_named : List ℕ → ℕ → ℕ → Option Call
+call_named s a b = word_of s >>= (λ word. call_of word a b)
 
 -- the call that a line writes: a word and two numbers
 abbrev pub reading : List ℕ → Option Call

@@ -1,10 +1,10 @@
 // One line: a word and two numbers, with a separator between each two.
 ghost use Rattle.std.specs.Prelude.{◌≡◌};
 ghost use Rattle.lines.specs.Exact.{ExactReading};
-ghost use Rattle.lines.specs.Lines.{call_of, reading, seen_pair, split, word_of};
+ghost use Rattle.lines.specs.Lines.{call_named, reading, seen_pair, split};
 
 use super::number::{classify, read_number};
-use super::syntax::{Call, Symbol, Word};
+use super::syntax::{Call, Symbol};
 
 // The bytes before the first separator and those after it.
 fn split_field(text: &[u8]) -> Option<(&[u8], &[u8])>
@@ -16,35 +16,19 @@ fn split_field(text: &[u8]) -> Option<(&[u8], &[u8])>
     Some((&text[..i], &text[i + 1..]))
 }
 
-// The call that a word names. No `TryFrom`: it would wrap the same match in an error that nobody reads.
-fn read_word(text: &[u8]) -> Option<Word>
-    ensures { result ≡ word_of text.now }
-{
-    match text {
-        b"open" => Some(Word::Open),
-        b"propose" => Some(Word::Propose),
-        b"start" => Some(Word::Start),
-        b"deliver" => Some(Word::Deliver),
-        b"consult" => Some(Word::Consult),
-        b"crash" => Some(Word::Crash),
-        b"pass" => Some(Word::Pass),
-        _ => None,
-    }
-}
-
-// The call of a word and its two numbers; a number that the call has no use for is 0. No `TryFrom`, which
+// The call of a word and two numbers; a number that the call has no use for is 0. No `TryFrom`, which
 // would take the three as one value and give an error that nobody reads.
-fn make_call(word: Word, first: u64, second: u64) -> Option<Call>
-    ensures { result ≡ call_of word first second }
+fn make_call(word: &[u8], first: u64, second: u64) -> Option<Call>
+    ensures { result ≡ call_named word.now first second }
 {
     match (word, first, second) {
-        (Word::Open, stations, patience) => Some(Call::Open { stations, patience }),
-        (Word::Propose, station, number) => Some(Call::Propose { station, number }),
-        (Word::Start, 0, 0) => Some(Call::Start),
-        (Word::Deliver, place, 0) => Some(Call::Deliver { place }),
-        (Word::Consult, station, 0) => Some(Call::Consult { station }),
-        (Word::Crash, station, 0) => Some(Call::Crash { station }),
-        (Word::Pass, 0, 0) => Some(Call::Pass),
+        (b"open", stations, patience) => Some(Call::Open { stations, patience }),
+        (b"propose", station, number) => Some(Call::Propose { station, number }),
+        (b"start", 0, 0) => Some(Call::Start),
+        (b"deliver", place, 0) => Some(Call::Deliver { place }),
+        (b"consult", station, 0) => Some(Call::Consult { station }),
+        (b"crash", station, 0) => Some(Call::Crash { station }),
+        (b"pass", 0, 0) => Some(Call::Pass),
         _ => None,
     }
 }
@@ -55,7 +39,7 @@ pub fn read_line(line: &[u8]) -> Option<Call>
 {
     let (name, numbers) = split_field(line)?;
     let (first, second) = split_field(numbers)?;
-    make_call(read_word(name)?, read_number(first)?, read_number(second)?)
+    make_call(name, read_number(first)?, read_number(second)?)
 }
 
 // A line reads as a call exactly when its three fields say it.

@@ -9,18 +9,6 @@ pub enum Symbol {
     Other,
 }
 
-// The word in front of a line.
-#[derive(Clone, Copy, Debug, PartialEq, Eq)]
-pub enum Word {
-    Open,
-    Propose,
-    Start,
-    Deliver,
-    Consult,
-    Crash,
-    Pass,
-}
-
 // A call as a line writes it.
 #[derive(Clone, Copy, Debug, PartialEq, Eq)]
 pub enum Call {

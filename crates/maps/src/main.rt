@@ -14,7 +14,7 @@ use words::{Counts, Decision};
 // 64 places, each of 24 bytes and those of a graded map.
 const TABLE: usize = 64 * 36;
 
-// The tables and the failure detector of a run of three stations.
+// The tables and the failure detector of a run of three stations. Its tables are arrays; a schedule has them on the heap.
 #[derive(Drop)]
 struct Desk {
     stations: [Station<GradedMap>; 3],
@@ -71,6 +71,7 @@ impl Desk {
         for _ in 0..200 {
             if self.deliver(running, 0).is_err() {
                 let last = usize::from(running.waiting().saturating_sub(1));
+                // a refusal here leaves all as it was, and is the end of this turn
                 let _ = self.deliver(running, last);
             }
         }
@@ -81,14 +82,14 @@ impl Desk {
         let mut running = self.begin()?;
         running.crash(&mut self.stations, &self.bytes, &mut self.detector, 0)?;
         for other in [1, 2] {
-            let _ = running.consult(&mut self.stations, &mut self.bytes, &self.detector, other)?;
+            running.consult(&mut self.stations, &mut self.bytes, &self.detector, other)?;
         }
         self.deliver_all(&mut running);
         Ok(running.close())
     }
 }
 
-// Prints the counts of a run, and what each station has decided.
+// Prints the counts of a run, and what each station has decided: a line each, of words that are `Display`.
 fn show(rt: &impl Print, closed: Closed, stations: &[Station<GradedMap>]) -> io::Result<()> {
     println!(rt; "{}", Counts(closed))?;
     for (i, station) in stations.iter().enumerate() {

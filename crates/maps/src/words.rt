@@ -3,7 +3,7 @@ use run::Closed;
 use std::fmt;
 use value::GradedMap;
 
-// What a station has decided, if it has.
+// What a station has decided, if it has; the words of a map are those of this program, with commas.
 #[derive(Clone, Copy)]
 pub(super) struct Decision(pub Option<GradedMap>);
 

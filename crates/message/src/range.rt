@@ -1,30 +1,37 @@
-// The units that have a range.
+// Where the units of a message stand, and their ranges.
 ghost use Rattle.std.specs.Prelude.{◌≡◌};
 ghost use Rattle.message.specs.Format.{within};
 
 use crate::{MessageFault, Reason};
 
+// The last two stand in crate `station` again, which knows no message.
 const LAST_STATION: u32 = 31;
 
 const LAST_ROUND: u32 = 60_000;
 
 const LAST_STAMP: u32 = 6_000_000;
 
+// How many bytes the kind and the head of a message take: an origin, or the value of a decision, follows them.
+pub(crate) const HEAD_END: usize = 20;
+
+// How many bytes they take with an origin: the value of an estimate follows them.
+pub const ORIGIN_END: usize = 24;
+
 // Where a unit stands in a message, and the least and the greatest number that it may be.
-#[derive(Clone, Copy)]
-pub(crate) struct UnitRange {
-    pub(crate) place: usize,
-    pub(crate) low: u32,
-    pub(crate) high: u32,
+#[derive(Clone, Copy, Debug, PartialEq, Eq)]
+pub struct UnitRange {
+    pub place: usize,
+    pub low: u32,
+    pub high: u32,
 }
 
-pub(crate) const SENDER: UnitRange = UnitRange {
+pub const SENDER: UnitRange = UnitRange {
     place: 4,
     low: 0,
     high: LAST_STATION,
 };
 
-pub(crate) const RECEIVER: UnitRange = UnitRange {
+pub const RECEIVER: UnitRange = UnitRange {
     place: 8,
     low: 0,
     high: LAST_STATION,
@@ -42,8 +49,8 @@ pub(crate) const STAMP: UnitRange = UnitRange {
     high: LAST_STAMP,
 };
 
-pub(crate) const ORIGIN: UnitRange = UnitRange {
-    place: 20,
+pub const ORIGIN: UnitRange = UnitRange {
+    place: HEAD_END,
     low: 0,
     high: LAST_STATION,
 };

@@ -4,7 +4,7 @@ ghost use Rattle.message.specs.Borrowing.{Borrows, Part, Rest};
 ghost use Rattle.message.specs.RoundTrips.{GoesBack};
 ghost use Rattle.message.specs.Format.{united, ranged, kinded, headed, judgement, valued, estimated, bodied, decoded, seen_part, seen_rest, seen_head, seen_value, seen_message, opened};
 
-use crate::range::{ORIGIN, RECEIVER, ROUND, SENDER, STAMP, UnitRange};
+use crate::range::{HEAD_END, ORIGIN, ORIGIN_END, RECEIVER, ROUND, SENDER, STAMP, UnitRange};
 use crate::{Head, Kind, Message, MessageFault, Reason};
 use value::{Value, ValueFault};
 
@@ -87,10 +87,10 @@ fn take_estimate<V: Value>(bytes: &[u8]) -> Result<(u32, &[u8]), MessageFault>
     ensures part { IfOk result (λ e. Part 4 V.Value.WIDTH bytes.entry e.1) }
 {
     let (origin, rest) = ORIGIN.take(bytes)?;
-    Ok((origin, take_value::<V>(rest, 24)?))
+    Ok((origin, take_value::<V>(rest, ORIGIN_END)?))
 }
 
-// What follows the head of a message of this kind.
+// What follows the head of a message of this kind. First and Second have an arm each: two documented kinds of one shape.
 fn take_body<V: Value>(kind: Kind, head: Head, bytes: &[u8]) -> Result<Message<&[u8]>, MessageFault>
     ensures answer { seen_message result ≡ bodied V.Value kind head bytes.now }
     ensures part { IfOk result (λ m. Borrows 0 V.Value.WIDTH bytes.entry m) }
@@ -105,7 +105,7 @@ fn take_body<V: Value>(kind: Kind, head: Head, bytes: &[u8]) -> Result<Message<&
             Ok(Message::Second(head, origin, value))
         }
         Kind::Suspicion => Ok(Message::Suspicion(head)),
-        Kind::Decision => Ok(Message::Decision(head, take_value::<V>(bytes, 20)?)),
+        Kind::Decision => Ok(Message::Decision(head, take_value::<V>(bytes, HEAD_END)?)),
     }
 }
 

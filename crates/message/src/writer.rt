@@ -4,7 +4,7 @@ ghost use Rattle.value.specs.Xdr.{unit};
 ghost use Rattle.message.specs.RoundTrips.{ComesBack};
 ghost use Rattle.message.specs.Format.{encoded, size_of, head_code, head_within, all_within, put, admits, kind_number, kind_of, head_of};
 
-use crate::range::{ORIGIN, RECEIVER, ROUND, SENDER, STAMP};
+use crate::range::{HEAD_END, ORIGIN, ORIGIN_END, RECEIVER, ROUND, SENDER, STAMP};
 use crate::{Head, Kind, Message, MessageFault, Reason};
 use value::Value;
 
@@ -46,6 +46,7 @@ fn put_value<V: Value>(out: &mut [u8], place: usize, v: &V)
     ensures { out.new ≡ put place (V.Value.code v.now) out.old }
 {
     let end = place + V::WIDTH;
+    // A value refuses none but another length than its own, and the part has that length.
     let _ = v.encode(&mut out[place..end]);
 }
 
@@ -81,9 +82,9 @@ impl<V: Value> Message<V> {
         ensures { result ≡ size_of V.Value self.now }
     {
         match self {
-            Message::First(..) | Message::Second(..) => 24 + V::WIDTH,
-            Message::Suspicion(_) => 20,
-            Message::Decision(..) => 20 + V::WIDTH,
+            Message::First(..) | Message::Second(..) => ORIGIN_END + V::WIDTH,
+            Message::Suspicion(_) => HEAD_END,
+            Message::Decision(..) => HEAD_END + V::WIDTH,
         }
     }
 
@@ -107,10 +108,10 @@ impl<V: Value> Message<V> {
         match self {
             Message::First(_, origin, value) | Message::Second(_, origin, value) => {
                 put_unit(out, ORIGIN.place, *origin);
-                put_value(out, 24, value);
+                put_value(out, ORIGIN_END, value);
             }
             Message::Suspicion(_) => {}
-            Message::Decision(_, value) => put_value(out, 20, value),
+            Message::Decision(_, value) => put_value(out, HEAD_END, value),
         }
     }
 

@@ -24,6 +24,7 @@ pub fn example_suspicion() -> SuspicionBytes
     };
     let suspicion: Message<Number> = Message::Suspicion(head);
     let mut out = [0; 20];
+    // it fits and is in its ranges, so this is no refusal
     let _ = suspicion.write(&mut out);
     out
 }

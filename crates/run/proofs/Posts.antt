@@ -1,5 +1,6 @@
 -- What a station sends is within the ranges of a message, if its round is.
-use Rattle.std.proofs.Common.{◌≡◌, ℕ, ◌+◌, ◌%◌, ◌<◌, ◌≤◌, max, Bool, true, false, eqb, ltb, is_some, Some, None, Ok, Err, Option, Result, refl, arith}
+use Rattle.std.proofs.Common.{◌≡◌, ℕ, ◌+◌, ◌%◌, ◌<◌, ◌≤◌, max, Bool, eqb, ltb, is_some, Some, None, Ok, Err, Option, Result, inl, inr, arith}
+use Rattle.std.proofs.lemmas.Bool.{cases_Bool}
 use Rattle.std.specs.Option.{option_map}
 use Rattle.station.specs.Rule.{Sound, adopted, began, consult_rule, content_rule, coordinator, counted_first, counted_second, counted_suspicion, due, enough, in_round_rule, joined_second, preferred, round_rule, started, take_rule}
 use Rattle.station.specs.declared.state.Station.{Station}
@@ -11,10 +12,6 @@ use Rattle.station.specs.declared.step.Step.{Step}
 use Rattle.station.specs.declared.broadcast.Broadcast.{Broadcast}
 use Rattle.station.specs.declared.step.Refused.{Refused}
 use Rattle.run.specs.Incoming.{Origin}
-
-on : {P : Type 0} (b : Bool) → (b ≡ true → P) → (b ≡ false → P) → P
-on true p q = p refl
-on false p q = q refl
 
 module _ {V : Type 0} where
   -- what one of n stations sends, which is then in round q
@@ -40,34 +37,28 @@ module _ {V : Type 0} where
   module _ (s : Station V) (sound : Sound s) where
     began_fair : (t : ℕ) (e : Option V) (r : ℕ) → FairStep s.n (began s t e r)
     began_fair t e r =
-        on (eqb (r % s.n) s.number)
-        (λ b. rw b (record { fair = maybe_fair s.n r r (t + 1) (content.First s.number) e (λ h. h) (omega arith) (λ v. sound.number) }))
-        (λ b. rw b (record { fair = tt }))
+        elim (cases_Bool (eqb (r % s.n) s.number)) [ inl b ↦ rw b (record { fair = maybe_fair s.n r r (t + 1) (content.First s.number) e (λ h. h) (omega arith) (λ v. sound.number) }) | inr b ↦ rw b (record { fair = tt }) ]
 
     adopted_fair : (t o : ℕ) (v : V) → o < s.n → FairStep s.n (adopted s t o v)
-    adopted_fair t o v h = on (eqb (coordinator s) s.number) (λ b. rw b (record { fair = tt })) (λ b. rw b (record { fair = (λ q. q, omega arith, h) }))
+    adopted_fair t o v h = elim (cases_Bool (eqb (coordinator s) s.number)) [ inl b ↦ rw b (record { fair = tt }) | inr b ↦ rw b (record { fair = (λ q. q, omega arith, h) }) ]
 
     first_fair : (t : ℕ) → FairStep s.n (counted_first s t)
     first_fair t =
-        on (enough s (s.heard + 1))
-        (λ b. rw b (record { fair = maybe_fair s.n s.round s.round (t + 1) content.Decision s.estimate (λ h. h) (omega arith) (λ v. tt) }))
-        (λ b. rw b (record { fair = tt }))
+        elim (cases_Bool (enough s (s.heard + 1))) [ inl b ↦ rw b (record { fair = maybe_fair s.n s.round s.round (t + 1) content.Decision s.estimate (λ h. h) (omega arith) (λ v. tt) }) | inr b ↦ rw b (record { fair = tt }) ]
 
     suspicion_fair : (t : ℕ) → FairStep s.n (counted_suspicion s t)
     suspicion_fair t =
-        on (enough s (s.doubts + 1))
-        (λ b. rw b (record { fair = maybe_fair s.n s.round s.round (t + 1) (content.Second s.origin) s.estimate (λ h. h) (omega arith) (λ v. sound.origin) }))
-        (λ b. rw b (record { fair = tt }))
+        elim (cases_Bool (enough s (s.doubts + 1))) [ inl b ↦ rw b (record { fair = maybe_fair s.n s.round s.round (t + 1) (content.Second s.origin) s.estimate (λ h. h) (omega arith) (λ v. sound.origin) }) | inr b ↦ rw b (record { fair = tt }) ]
 
     joined_fair : (t o : ℕ) (v : V) → FairStep s.n (joined_second s t o v)
     joined_fair t o v = record { fair = maybe_fair s.n s.round s.round (t + 1) (content.Second s.origin) s.estimate (λ h. h) (omega arith) (λ v. sound.origin) }
 
     second_fair : (t o : ℕ) (v : V) → FairStep s.n (counted_second s t o v)
     unfolding counted_second
-    second_fair t o v = on (enough s (s.heard + 1)) (λ b. rw b (began_fair t (preferred s o v).0 (s.round + 1))) (λ b. rw b (record { fair = tt }))
+    second_fair t o v = elim (cases_Bool (enough s (s.heard + 1))) [ inl b ↦ rw b (began_fair t (preferred s o v).0 (s.round + 1)) | inr b ↦ rw b (record { fair = tt }) ]
 
     in_round_fair : (t : ℕ) (p : Phase) (c : Content V) → Origin s.n c → FairStep s.n (in_round_rule s t p c)
-    in_round_fair t phase.First (content.First o v) h = on (eqb s.heard 0) (λ b. rw b (adopted_fair t o v h)) (λ b. rw b (first_fair t))
+    in_round_fair t phase.First (content.First o v) h = elim (cases_Bool (eqb s.heard 0)) [ inl b ↦ rw b (adopted_fair t o v h) | inr b ↦ rw b (first_fair t) ]
     in_round_fair t phase.First (content.Second o v) h = joined_fair t o v
     in_round_fair t phase.First content.Suspicion h = suspicion_fair t
     in_round_fair t phase.First (content.Decision v) h = record { fair = tt }
@@ -78,9 +69,7 @@ module _ {V : Type 0} where
 
     round_fair : (m : Broadcast V) → Origin s.n m.content → FairResult s.n (round_rule s m)
     round_fair m h =
-        on (ltb m.round s.round)
-        (λ b. rw b (record { fair = tt }))
-        (λ b. rw b (on (ltb s.round m.round) (λ f. rw f (record { fair = tt })) (λ f. rw f (record { fair = (in_round_fair (max s.stamp m.stamp) s.phase m.content h).fair }))))
+        elim (cases_Bool (ltb m.round s.round)) [ inl b ↦ rw b (record { fair = tt }) | inr b ↦ rw b (elim (cases_Bool (ltb s.round m.round)) [ inl f ↦ rw f (record { fair = tt }) | inr f ↦ rw f (record { fair = (in_round_fair (max s.stamp m.stamp) s.phase m.content h).fair }) ]) ]
 
     content_fair : (m : Broadcast V) (c : Content V) → m.round ≤ 60000 → Origin s.n m.content → FairResult s.n (content_rule s m c)
     content_fair m (content.Decision v) r h = record { fair = (λ _. r, omega arith, tt) }
@@ -89,17 +78,17 @@ module _ {V : Type 0} where
     content_fair m content.Suspicion r h = round_fair m h
 
     pub take_fair : (m : Broadcast V) → m.round ≤ 60000 → Origin s.n m.content → FairResult s.n (take_rule s m)
-    take_fair m r h = on (is_some s.decision) (λ b. rw b (record { fair = tt })) (λ b. rw b (content_fair m m.content r h))
+    take_fair m r h = elim (cases_Bool (is_some s.decision)) [ inl b ↦ rw b (record { fair = tt }) | inr b ↦ rw b (content_fair m m.content r h) ]
 
     consulted_fair : (b : Bool) → FairStep s.n (consult_rule s b)
-    consulted_fair b = on (due s b) (λ e. rw e (record { fair = (λ q. q, omega arith, tt) })) (λ e. rw e (record { fair = tt }))
+    consulted_fair b = elim (cases_Bool (due s b)) [ inl e ↦ rw e (record { fair = (λ q. q, omega arith, tt) }) | inr e ↦ rw e (record { fair = tt }) ]
 
     -- what goes out as round 0 begins
     pub start_fair : Fair s.n (started s).0.round (started s).1.sent
     start_fair = (began_fair s.stamp s.estimate 0).fair
 
     pub start_round : (started s).0.round ≡ 0
-    start_round = on (eqb (0 % s.n) s.number) (λ b. rw b) (λ b. rw b)
+    start_round = elim (cases_Bool (eqb (0 % s.n) s.number)) [ inl b ↦ rw b | inr b ↦ rw b ]
 
     pub consult_fair : (b : Bool) → Fair s.n (consult_rule s b).0.round (consult_rule s b).1.sent
     consult_fair b = (consulted_fair b).fair

@@ -1,15 +1,15 @@
 -- A message that was read is within its ranges.
-use Rattle.std.proofs.Common.{◌≡◌, ℕ, ◌≤◌, ◌&&◌, leb, List, Ok, Err, Result, ap, ◌∙◌, subst, arith, leb-true}
+use Rattle.std.proofs.Common.{◌≡◌, ℕ, ◌≤◌, ◌&&◌, leb, List, Ok, Err, Result, refl, sym, ap, ◌∙◌, subst, arith, leb-true}
 use Rattle.std.proofs.lemmas.Bool.{and_parts}
 use Rattle.value.specs.declared.Value.{Ghosts}
 use Rattle.value.specs.declared.fault.ValueFault.{ValueFault}
 use Rattle.message.specs.declared.types.Head.{Head}
 use Rattle.message.specs.declared.types.Kind.{Kind}
-use Rattle.message.specs.declared.types.Kind.TheVariants as kind
 use Rattle.message.specs.declared.types.Message.{Message}
 use Rattle.message.specs.declared.types.Message.TheVariants as message
-use Rattle.message.specs.Format.{ranged, headed, head_within, within, valued, bodied, decoded, opened, head_of}
+use Rattle.message.specs.Format.{headed, head_within, within, bodied, decoded, opened, head_of, next}
 use Rattle.message.proofs.Ranges.{headed-within}
+use Rattle.message.proofs.Taken.{bodied_by}
 use Rattle.message.proofs.Trips.{before, tested}
 use Rattle.table.specs.Messages.{reopened, understood}
 use Rattle.run.specs.Incoming.{Ranges}
@@ -36,36 +36,18 @@ head_ranges h e =
 
 module _ {V : Type 0} (of : Ghosts V) where
   bodied-head : (k : Kind) (h : Head) (s : List ℕ) (m : Message (List ℕ)) → bodied of k h s ≡ Ok m → h ≡ head_of m
-  bodied-head kind.First h s m e =
-      let o = before (ranged 20 0 31 s) _ m e in
-      let v = before (valued of 24 o.0.1) _ m o.2 in
-      let same : message.First h o.0.0 v.0 ≡ m = cc in
-      ap head_of same
-  bodied-head kind.Second h s m e =
-      let o = before (ranged 20 0 31 s) _ m e in
-      let v = before (valued of 24 o.0.1) _ m o.2 in
-      let same : message.Second h o.0.0 v.0 ≡ m = cc in
-      ap head_of same
-  bodied-head kind.Suspicion h s m e = let same : message.Suspicion h ≡ m = cc in ap head_of same
-  bodied-head kind.Decision h s m e =
-      let v = before (valued of 20 s) _ m e in
-      let same : message.Decision h v.0 ≡ m = cc in
-      ap head_of same
+  bodied-head k h s = bodied_by of h s (λ k m. h ≡ head_of m) (λ o v r p. refl) (λ o v r p. refl) refl (λ v p. refl) k
+
+  -- a value that was read, in what is made of it
+  read_value : {X : Type 0} (h : Head) (r : Result V X) (f : V → Message V) (m : Message V) → ((v : V) → head_of (f v) ≡ h) → next r (λ v. Ok (f v)) ≡ Ok m → h ≡ head_of m
+  read_value h (Ok v) f m k e = let same : f v ≡ m = cc in sym (k v) ∙ ap head_of same
+  read_value h (Err d) f m k e = cc
 
   opened-head : (b : Message (List ℕ)) (m : Message V) → opened of b ≡ Ok m → head_of b ≡ head_of m
-  opened-head (message.First h o s) m e =
-      let v = before (of.parse s) _ m e in
-      let same : message.First h o v.0 ≡ m = cc in
-      ap head_of same
-  opened-head (message.Second h o s) m e =
-      let v = before (of.parse s) _ m e in
-      let same : message.Second h o v.0 ≡ m = cc in
-      ap head_of same
+  opened-head (message.First h o s) m e = read_value h (of.parse s) (message.First h o) m (λ v. refl) e
+  opened-head (message.Second h o s) m e = read_value h (of.parse s) (message.Second h o) m (λ v. refl) e
   opened-head (message.Suspicion h) m e = let same : message.Suspicion h ≡ m = cc in ap head_of same
-  opened-head (message.Decision h s) m e =
-      let v = before (of.parse s) _ m e in
-      let same : message.Decision h v.0 ≡ m = cc in
-      ap head_of same
+  opened-head (message.Decision h s) m e = read_value h (of.parse s) (message.Decision h) m (λ v. refl) e
 
   reopened_ok : (r : Result (Message V) ValueFault) (m : Message V) → reopened r ≡ Ok m → r ≡ Ok m
   reopened_ok (Ok x) m e = let same : x ≡ m = cc in ap Ok same

@@ -1,10 +1,9 @@
 -- Consultations.
-use Rattle.std.specs.Prelude.{ℕ, Bool, List, length, is_some, Ok, Err, Result, slice_set}
+use Rattle.std.specs.Prelude.{ℕ, Bool, List, length, is_some, Ok, Err, Result}
 use Rattle.message.specs.Format.{next}
 use Rattle.run.specs.Admission.{admitted}
-use Rattle.run.specs.After.{after, After}
+use Rattle.run.specs.After.{After, after, carried_out}
 use Rattle.run.specs.Numbers.{Numbers}
-use Rattle.run.specs.Posting.{posted, posted_bytes}
 use Rattle.run.specs.Records.{station_at, named}
 use Rattle.run.specs.declared.plan.Plan.{Plan}
 use Rattle.run.specs.declared.refusal.Refusal.{Refusal}
@@ -28,12 +27,7 @@ module _ {V : Type 0} (of : Ghosts V) (suspects : ℕ → ℕ → Bool) where
   -- what is left of a consultation that comes to this
   abbrev pub consult_finished : Numbers → List (Station V) → List ℕ → Result (Plan V) Refusal → After V Bool
   consult_finished run stations bytes (Err e) = after run stations bytes (Err e)
-  consult_finished run stations bytes (Ok p) = record {
-    run = posted run p.step.sent;
-    stations = slice_set stations p.to p.station;
-    bytes = posted_bytes of bytes run p.to p.step.sent;
-    answer = Ok (is_some p.step.sent);
-  }
+  consult_finished run stations bytes (Ok p) = carried_out of run stations bytes p (is_some p.step.sent)
 
   -- a consultation
   abbrev pub consulted : Numbers → List (Station V) → List ℕ → ℕ → After V Bool

@@ -1,11 +1,11 @@
 -- Crashes and passes.
-use Rattle.std.specs.Prelude.{ℕ, ◌+◌, ◌*◌, Bool, true, not, List, [], ◌∷◌, length, Ok, Err, count_by, Result, nat_le, slice_set}
+use Rattle.std.specs.Prelude.{ℕ, ◌+◌, ◌*◌, Bool, true, not, List, [], ◌∷◌, length, Ok, count_by, Result, nat_le}
 use Rattle.value.specs.declared.Value.{Ghosts}
 use Rattle.message.specs.Format.{next}
 use Rattle.station.specs.declared.state.Station.{Station}
 use Rattle.run.specs.Numbers.{Numbers, tables_fit}
 use Rattle.run.specs.Refusals.{refusing}
-use Rattle.run.specs.Records.{named, station_at}
+use Rattle.run.specs.Records.{changed, named, station_at}
 use Rattle.run.specs.declared.refusal.Refusal.{Refusal}
 use Rattle.run.specs.declared.refusal.Refusal.TheVariants as refusal
 
@@ -21,11 +21,9 @@ module _ {V : Type 0} where
   abbrev pub too_many : Numbers → List (Station V) → Bool
   too_many run stations = nat_le run.n (2 * (crashes stations + 1))
 
-module _ {V : Type 0} where
   -- the stations after a crash that is answered so
   abbrev pub after_crash : List (Station V) → ℕ → Result (Unit {0}) Refusal → List (Station V)
-  after_crash stations i (Ok x) = slice_set stations i (ended (station_at stations i))
-  after_crash stations i (Err e) = stations
+  after_crash stations i r = changed stations i (ended (station_at stations i)) r
 
 module _ {V : Type 0} (of : Ghosts V) where
   -- whether station i may crash

@@ -1,12 +1,12 @@
 -- Deliveries.
-use Rattle.std.specs.Prelude.{ℕ, ◌+◌, ◌-◌, ◌*◌, cond, not, List, [], ◌∷◌, length, Ok, Err, Result, nat_le, slice_set}
+use Rattle.std.specs.Prelude.{ℕ, ◌+◌, ◌-◌, ◌*◌, cond, not, List, [], ◌∷◌, length, Ok, Err, Result, nat_le}
+use Rattle.std.specs.Result.{result_map_both}
 use Rattle.message.specs.Format.{head_of, next}
 use Rattle.message.specs.declared.types.Message.{Message}
 use Rattle.run.specs.Admission.{admitted}
-use Rattle.run.specs.After.{After}
+use Rattle.run.specs.After.{After, after, carried_out}
 use Rattle.run.specs.Incoming.{incoming_for}
 use Rattle.run.specs.Numbers.{Numbers, tables_fit}
-use Rattle.run.specs.Posting.{posted, posted_bytes}
 use Rattle.run.specs.Records.{station_at, record_sound}
 use Rattle.run.specs.Refusals.{of_message, of_step, refusing}
 use Rattle.run.specs.declared.plan.Plan.{Plan}
@@ -24,15 +24,14 @@ use Rattle.station.specs.declared.step.Outcome.TheVariants as outcome
 use Rattle.run.specs.declared.refusal.Refusal.TheVariants as refusal
 
 module _ {V : Type 0} where
-  -- a step with the record that it leaves, or why there is none
-  abbrev pub paired : Station V → Result (Step V) Refused → Result (Station V × Step V) Refusal
-  paired s (Ok x) = Ok (s, x)
-  paired s (Err e) = Err (of_step e)
-
   -- an answer with the record that is left beside it
   abbrev pub beside : {X : Type 0} → Station V → Result X Refusal → Result (Station V × X) Refusal
   beside s (Ok x) = Ok (s, x)
   beside s (Err e) = Err e
+
+  -- a step with the record that it leaves, or why there is none
+  abbrev pub paired : Station V → Result (Step V) Refused → Result (Station V × Step V) Refusal
+  paired s r = beside s (result_map_both (λ x. x) of_step r)
 
   -- what a message makes of a station; one that crashed takes nothing
   unfoldable pub tried : Station V → Broadcast V → Result (Station V × Step V) Refusal
@@ -57,18 +56,13 @@ module _ {V : Type 0} where
 
 -- one message delivered
 abbrev pub emptied : Numbers → Numbers
-emptied run = record { n = run.n; places = run.places; waiting = run.waiting - 1; sent = run.sent; delivered = run.delivered + 1; lost = run.lost }
+emptied run = record run { waiting = run.waiting - 1; delivered = run.delivered + 1 }
 
 module _ {V : Type 0} (of : Ghosts V) where
   -- what is left of a delivery that comes to this
   abbrev pub finished : Numbers → List (Station V) → List ℕ → ℕ → Result (Plan V) Refusal → After V Outcome
-  finished run stations bytes k (Err e) = record { run = run; stations = stations; bytes = bytes; answer = Err e }
-  finished run stations bytes k (Ok p) = record {
-    run = posted (emptied run) p.step.sent;
-    stations = slice_set stations p.to p.station;
-    bytes = posted_bytes of (taken_out bytes (size of) k (run.waiting - 1)) (emptied run) p.to p.step.sent;
-    answer = Ok p.step.outcome;
-  }
+  finished run stations bytes k (Err e) = after run stations bytes (Err e)
+  finished run stations bytes k (Ok p) = carried_out of (emptied run) stations (taken_out bytes (size of) k (run.waiting - 1)) p p.step.outcome
 
   -- a delivery
   abbrev pub delivered : Numbers → List (Station V) → List ℕ → ℕ → After V Outcome

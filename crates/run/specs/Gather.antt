@@ -1,5 +1,5 @@
 -- From the opening of a run to its start.
-use Rattle.std.specs.Prelude.{◌≡◌, ℕ, ◌+◌, ◌*◌, ◌/◌, ◌<◌, Bool, not, ◌||◌, List, [], ◌∷◌, length, replicate, is_some, Ok, Err, Result, ◌==◌, nat_le, nat_lt, slice_set}
+use Rattle.std.specs.Prelude.{◌≡◌, ℕ, ◌+◌, ◌*◌, ◌/◌, ◌<◌, Bool, not, ◌||◌, List, [], ◌∷◌, length, replicate, is_some, Ok, Err, Result, ◌==◌, nat_le, nat_lt}
 use Rattle.std.specs.List.{enumerate_from, list_all}
 use Rattle.value.specs.declared.Value.{Ghosts}
 use Rattle.station.specs.Rule.{formed, fresh, proposing, started}
@@ -9,7 +9,7 @@ use Rattle.table.specs.Messages.{size}
 use Rattle.table.specs.Places.{put}
 use Rattle.run.specs.Admission.{late}
 use Rattle.run.specs.Posting.{posted, posted_bytes}
-use Rattle.run.specs.Records.{station_at}
+use Rattle.run.specs.Records.{changed, station_at}
 use Rattle.run.specs.Numbers.{Numbers, gathered, numbers, tables_fit}
 use Rattle.run.specs.Refusals.{refusing}
 use Rattle.run.specs.declared.gathering.Gathering.{Gathering}
@@ -54,8 +54,7 @@ module _ {V : Type 0} where
 
   -- the stations after a proposal that is answered so
   abbrev pub after_proposal : List (Station V) → ℕ → V → Result (Unit {0}) Refusal → List (Station V)
-  after_proposal stations i v (Ok x) = slice_set stations i (proposing (station_at stations i) v)
-  after_proposal stations i v (Err e) = stations
+  after_proposal stations i v r = changed stations i (proposing (station_at stations i) v) r
 
 module _ {V : Type 0} (of : Ghosts V) where
   -- the byte table after an opening that is answered so

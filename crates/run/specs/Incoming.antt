@@ -10,7 +10,7 @@ use Rattle.station.specs.declared.broadcast.Content.{Content}
 use Rattle.station.specs.declared.broadcast.Content.TheVariants as content
 use Rattle.station.specs.declared.broadcast.Broadcast.{Broadcast}
 
--- what a reader knows of the units of a head
+-- what a reader knows of the units of a head: the facts behind the answer head_within, for the sums that use them
 pub record Ranges (h : Head) : Type 0 where
   pub sender : h.sender ≤ 31
   pub receiver : h.receiver ≤ 31

@@ -8,7 +8,7 @@ use Rattle.value.specs.declared.Value.{Ghosts}
 
 -- one broadcast more
 abbrev pub extended : Numbers → Numbers
-extended run = record { n = run.n; places = run.places; waiting = run.waiting + run.n; sent = run.sent + run.n; delivered = run.delivered; lost = run.lost }
+extended run = record run { waiting = run.waiting + run.n; sent = run.sent + run.n }
 
 module _ {V : Type 0} where
   abbrev pub posted : Numbers → Option (Broadcast V) → Numbers

@@ -52,7 +52,7 @@ impl Running {
             i,
         )?;
         stations[to] = station;
-        self.post(bytes, to as u8, &step.sent);
+        self.post(bytes, to as u8, step.sent);
         Ok(step.sent.is_some())
     }
 }

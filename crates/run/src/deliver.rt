@@ -28,10 +28,7 @@ fn try_take<V: Value>(station: &mut Station<V>, m: &Broadcast<V>) -> Result<Step
     ensures { beside station.new result ≡ tried station.old m.now }
 {
     if station.crashed {
-        return Ok(Step {
-            sent: None,
-            outcome: Outcome::Nothing,
-        });
+        return Ok(Step::quiet(Outcome::Nothing));
     }
     Ok(station.take(m)?)
 }
@@ -89,6 +86,7 @@ impl Running {
         &mut self,
         stations: &mut [Station<V>],
         bytes: &mut [u8],
+        // not read: each call is handed both tables and the detector
         detector: &D,
         k: usize,
     ) -> Result<Outcome, Refusal>
@@ -97,7 +95,7 @@ impl Running {
         let Plan { to, station, step } = self.plan(Tables { stations, bytes }, k)?;
         stations[to] = station;
         self.remove(bytes, place_size::<V>(), k);
-        self.post(bytes, to as u8, &step.sent);
+        self.post(bytes, to as u8, step.sent);
         Ok(step.outcome)
     }
 }

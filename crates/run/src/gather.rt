@@ -16,6 +16,13 @@ use station::{Station, Step};
 use table::{clear, place_size};
 use value::Value;
 
+// The fewest and the most stations of a run, and the most places.
+const FEWEST: usize = 3;
+
+const MOST: usize = 32;
+
+const MOST_PLACES: usize = 4096;
+
 // Sets each record to that of its station as a run is opened.
 fn reset<V: Value>(stations: &mut [Station<V>], n: u8)
     requires { length stations.old ≡ n }
@@ -54,18 +61,19 @@ fn begin_all<V: Value>(stations: &mut [Station<V>])
 
 impl Gathering {
     // A run of `n` stations over these tables, if it may be opened; nothing is changed.
-    fn over<V: Value>(n: usize, known: usize, tables: Tables<V>) -> Result<Gathering, Refusal>
-        ensures answer { opened result ≡ opening V.Value.WIDTH n known (length tables.entry.stations.now) (length tables.entry.bytes.now) }
+    fn over<V: Value>(n: usize, of_detector: usize, tables: Tables<V>) -> Result<Gathering, Refusal>
+        ensures answer { opened result ≡ opening V.Value.WIDTH n of_detector (length tables.entry.stations.now) (length tables.entry.bytes.now) }
         ensures fit { IfOk result (λ run. Fitting V.Value run.n run.places tables.entry) }
     {
-        if n < 3 || n > 32 || known != n {
+        // by comparisons: with `contains` of a range, goals of this test stay open
+        if n < FEWEST || n > MOST || of_detector != n {
             return Err(Refusal::Stations);
         }
         if tables.stations.len() != n {
             return Err(Refusal::Tables);
         }
         let places = tables.bytes.len() / place_size::<V>();
-        if places < n || places > 4096 {
+        if places < n || places > MOST_PLACES {
             return Err(Refusal::Tables);
         }
         Ok(Gathering {
@@ -113,6 +121,7 @@ impl Gathering {
         &self,
         stations: &mut [Station<V>],
         bytes: &[u8],
+        // not read: each call is handed both tables and the detector
         detector: &D,
         i: usize,
         value: V,
@@ -140,7 +149,7 @@ impl Gathering {
         }
         let mut first = tables.stations[0];
         let step = first.begin_first();
-        if is_late(&step.sent) {
+        if is_late(step.sent) {
             return Err(Refusal::Stamp);
         }
         Ok(step)
@@ -151,13 +160,14 @@ impl Gathering {
         self,
         stations: &mut [Station<V>],
         bytes: &mut [u8],
+        // not read: each call is handed both tables and the detector
         detector: &D,
     ) -> Result<Running, (Gathering, Refusal)>
         ensures answer { handed result ≡ start_result V.Value (gathered self) stations.old (length bytes.old) }
         ensures stations { MatchResult result (λ _. Begun stations.old stations.new) (λ _. stations.new ≡ stations.old) }
         ensures bytes { bytes.new ≡ after_start V.Value (gathered self) stations.old bytes.old result }
     {
-        // (a `map_err` that gives the gathering back would take it away where there is no refusal)
+        // by `match`: a `map_err` would move `self` where there is no refusal too
         let step = match self.start_plan(Tables { stations, bytes }) {
             Ok(step) => step,
             Err(refusal) => return Err((self, refusal)),
@@ -172,7 +182,7 @@ impl Gathering {
             delivered: 0,
             lost: 0,
         };
-        running.post(bytes, 0, &step.sent);
+        running.post(bytes, 0, step.sent);
         Ok(running)
     }
 }

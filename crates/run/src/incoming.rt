@@ -3,16 +3,9 @@ ghost use Rattle.std.specs.Prelude.{◌≡◌, ◌<◌, ◌≤◌, IfOk, OnOk};
 ghost use Rattle.message.specs.Format.{head_of};
 ghost use Rattle.run.specs.Incoming.{Known, Origin, content_for, incoming_for, station_unit};
 
-use message::{Message, MessageFault, Reason};
+use message::{Message, MessageFault, ORIGIN, RECEIVER, Reason, SENDER};
 use station::{Broadcast, Content};
 use value::Value;
-
-// Where the units that name stations stand in a message.
-const SENDER: usize = 4;
-
-const RECEIVER: usize = 8;
-
-const ORIGIN: usize = 20;
 
 // The station that a unit names, which has to be one of `n`.
 fn station_among(number: u32, n: u8, place: usize) -> Result<u8, MessageFault>
@@ -26,17 +19,18 @@ fn station_among(number: u32, n: u8, place: usize) -> Result<u8, MessageFault>
     Ok(number as u8)
 }
 
+// What a message says, by case: its four kinds are four documented ones, also where two have one shape.
 fn content_among<V: Value>(m: &Message<V>, n: u8) -> Result<Content<V>, MessageFault>
     ensures answer { result ≡ content_for n m.now }
     ensures origin { IfOk result (Origin n) }
 {
     match m {
         Message::First(_, origin, value) => Ok(Content::First {
-            origin: station_among(*origin, n, ORIGIN)?,
+            origin: station_among(*origin, n, ORIGIN.place)?,
             value: *value,
         }),
         Message::Second(_, origin, value) => Ok(Content::Second {
-            origin: station_among(*origin, n, ORIGIN)?,
+            origin: station_among(*origin, n, ORIGIN.place)?,
             value: *value,
         }),
         Message::Suspicion(_) => Ok(Content::Suspicion),
@@ -51,8 +45,8 @@ pub(super) fn incoming<V: Value>(m: &Message<V>, n: u8) -> Result<Broadcast<V>, 
     ensures known { IfOk result (Known n m.now) }
 {
     let head = m.head();
-    station_among(head.sender, n, SENDER)?;
-    station_among(head.receiver, n, RECEIVER)?;
+    station_among(head.sender, n, SENDER.place)?;
+    station_among(head.receiver, n, RECEIVER.place)?;
     let content = content_among(m, n)?;
     Ok(Broadcast {
         round: head.round as u16,

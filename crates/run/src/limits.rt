@@ -9,9 +9,12 @@ use super::running::Running;
 use station::{Broadcast, MAX_ROUND, MAX_STAMP, Station, Step};
 use value::Value;
 
+// The most messages that one station sends to one station.
+const PER_PAIR: u32 = 180_004;
+
 // Whether a broadcast bears a stamp that is too high.
-pub(super) fn is_late<V: Value>(sent: &Option<Broadcast<V>>) -> bool
-    ensures { result ≡ late sent.now }
+pub(super) fn is_late<V: Value>(sent: Option<Broadcast<V>>) -> bool
+    ensures { result ≡ late sent }
 {
     sent.is_some_and(|b| b.stamp > MAX_STAMP)
 }
@@ -23,7 +26,7 @@ impl Running {
         ensures { result ≡ limit (numbers self.now) }
     {
         let n = u32::from(self.n);
-        n * n * 180_004
+        n * n * PER_PAIR
     }
 
     // Whether a step may be made, by what it leaves and sends.
@@ -45,7 +48,7 @@ impl Running {
         if next.round > MAX_ROUND {
             return Err(Refusal::Rounds);
         }
-        if is_late(&step.sent) {
+        if is_late(step.sent) {
             return Err(Refusal::Stamp);
         }
         if sends && waiting + u16::from(self.n) > self.places {

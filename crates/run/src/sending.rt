@@ -15,14 +15,14 @@ impl Running {
         &mut self,
         bytes: &mut [u8],
         sender: u8,
-        sent: &Option<Broadcast<V>>,
+        sent: Option<Broadcast<V>>,
     )
-        requires { Postable V.Value (numbers self.old) (length bytes.old) sender sent.now }
-        ensures run { numbers self.new ≡ posted (numbers self.old) sent.now }
-        ensures bytes { bytes.new ≡ posted_bytes V.Value bytes.old (numbers self.old) sender sent.now }
+        requires { Postable V.Value (numbers self.old) (length bytes.old) sender sent }
+        ensures run { numbers self.new ≡ posted (numbers self.old) sent }
+        ensures bytes { bytes.new ≡ posted_bytes V.Value bytes.old (numbers self.old) sender sent }
     {
         if let Some(b) = sent {
-            append(bytes, usize::from(self.waiting), self.n, sender, b);
+            append(bytes, usize::from(self.waiting), self.n, sender, &b);
             self.waiting += u16::from(self.n);
             self.sent += u32::from(self.n);
         }

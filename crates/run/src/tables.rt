@@ -54,7 +54,7 @@ impl Running {
     }
 
     // The record of station `i`, which a call names.
-    #[tactic(auto, unfolding(crate::specs::Records::named, crate::specs::Records::record_sound))]
+    #[tactic(auto, using(crate::proofs::Members::named_found), unfolding(crate::specs::Records::named, crate::specs::Records::record_sound))]
     pub(super) fn named<V: Value>(&self, tables: Tables<V>, i: usize) -> Result<Station<V>, Refusal>
         ensures named { OnOk result (named V.Value (numbers self.now) tables.entry.stations.now (length tables.entry.bytes.now) i ≡ Ok tt) }
         ensures refused { IfErr result (λ e. named V.Value (numbers self.now) tables.entry.stations.now (length tables.entry.bytes.now) i ≡ Err e) }

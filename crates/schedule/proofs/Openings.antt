@@ -1,9 +1,10 @@
 -- The opening of a run.
 use Rattle.std.proofs.Common.{◌≡◌, ℕ, ◌+◌, ◌-◌, ◌*◌, ◌≤◌, List, length, get_or, drop, replicate, Ok, Err, Result, refl, ap, ◌∙◌, subst, ⊎_elim, arith, get_or-drop}
-use lib.ListN.{length-replicate, get_or-replicate}
+use lib.ListN.{length-replicate}
 use Rattle.std.proofs.lemmas.Bool.{cases_lt, le-ltb, eq-eqb}
-use Rattle.std.proofs.lemmas.List.{get_or_append_left, get_or-append_right, get_or_past}
+use Rattle.std.proofs.lemmas.List.{get_or_append_left, get_or-append_right}
 use Rattle.value.specs.contracts.kinds.NumberValue.TheImpl as number
+use Rattle.detector.proofs.Watches.{get_or-copies}
 use Rattle.run.specs.Gather.{cleared, opening}
 use Rattle.run.specs.Numbers.{gathered}
 use Rattle.run.specs.declared.gathering.Gathering.{Gathering}
@@ -12,13 +13,10 @@ use Rattle.schedule.specs.Calls.{Answered, Opened, Opens, Ready}
 use Rattle.schedule.specs.States.{Held, gathering, idle}
 use Rattle.schedule.specs.Tables.{Blank}
 
-zero_at : (n i : ℕ) → ◌≡◌ {A = ℕ} (get_or (replicate n 0) i 0) 0
-zero_at n i = ⊎_elim (λ h. get_or-replicate n i 0 0 h) (λ h. get_or_past (replicate n 0) i 0 (omega (arith, length-replicate {A = ℕ} n 0))) (cases_lt i n)
-
 pub blank_new : (n : ℕ) (bs : List ℕ) → bs ≡ replicate n 0 → Blank n bs
 blank_new n bs e = record {
   long = ap length e ∙ length-replicate {A = ℕ} n 0;
-  empty = λ i. ap (λ l. get_or l i 0) e ∙ zero_at n i;
+  empty = λ i. ap (λ l. get_or l i 0) e ∙ get_or-copies n i 0;
 }
 
 -- clearing an empty table leaves it empty
@@ -27,7 +25,7 @@ blank-cleared g bs h i =
     let m : ℕ = g.places * 32 in
     let rest : List ℕ = drop (0 + length (replicate {A = ℕ} m 0)) bs in
     ⊎_elim
-    (λ l. get_or_append_left (replicate m 0) rest 0 i (omega (arith, length-replicate {A = ℕ} m 0)) ∙ zero_at m i)
+    (λ l. get_or_append_left (replicate m 0) rest 0 i (omega (arith, length-replicate {A = ℕ} m 0)) ∙ get_or-copies m i 0)
     (λ l. get_or-append_right (replicate m 0) rest m i 0 (length-replicate {A = ℕ} m 0) l ∙ get_or-drop (0 + length (replicate m 0)) bs (i - m) 0 ∙ h _)
     (cases_lt i m)
 

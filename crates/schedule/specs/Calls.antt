@@ -9,7 +9,7 @@ use Rattle.detector.specs.declared.patient.PatientDetector.{PatientDetector}
 use Rattle.detector.specs.contracts.patient.PatientDetectorFailureDetector.TheImpl as patient
 use Rattle.station.specs.Rule.{started}
 use Rattle.station.specs.declared.state.Station.{Station}
-use Rattle.run.specs.Numbers.{Numbers}
+use Rattle.run.specs.Numbers.{Numbers, unsent}
 use Rattle.run.specs.Gather.{Begun, Reset, after_proposal, opening, propose_answer, start_result}
 use Rattle.run.specs.After.{After}
 use Rattle.run.specs.Consult.{consulted}
@@ -34,10 +34,6 @@ pub record Ready (n patience : ℕ) (h : Held) : Type 0 where
   pub reset : Reset n h.stations
   pub bytes : Blank 19200 h.bytes
   pub detector : Fresh n (min patience 100) (means patient.ghosts h.detector)
-
--- the numbers of a run of n stations and so many places that still gathers
-abbrev pub unsent : ℕ → ℕ → Numbers
-unsent n places = record { n = n; places = places; waiting = 0; sent = 0; delivered = 0; lost = 0 }
 
 -- a run that was opened with these numbers
 abbrev pub Opened : ℕ → ℕ → ℕ × ℕ → State → Type 0

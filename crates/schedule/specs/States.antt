@@ -1,5 +1,5 @@
 -- A session, by what it holds.
-use Rattle.std.specs.Prelude.{ℕ, List, vec_items}
+use Rattle.std.specs.Prelude.{ℕ, List, Ok, Err, Result, vec_items}
 use Rattle.value.specs.declared.number.Number.{Number}
 use Rattle.detector.specs.declared.patient.PatientDetector.{PatientDetector}
 use Rattle.station.specs.declared.state.Station.{Station}
@@ -7,6 +7,8 @@ use Rattle.run.specs.Numbers.{Numbers, gathered, numbers}
 use Rattle.run.specs.declared.gathering.Gathering.{Gathering}
 use Rattle.run.specs.declared.running.Running.{Running}
 use Rattle.schedule.specs.declared.desk.Desk.{Desk}
+use Rattle.schedule.specs.declared.refusal.LineRefusal.{LineRefusal}
+use Rattle.schedule.specs.Refusals.{Outcome}
 use Rattle.schedule.specs.declared.session.Session.{Session}
 use Rattle.schedule.specs.declared.session.Session.TheVariants as session
 
@@ -39,6 +41,16 @@ abbrev pub state : Session → State
 state session.Idle = idle
 state (session.Gathering run desk) = gathering_on run desk
 state (session.Running run desk) = running_on run desk
+
+-- the state after an opening, which stays idle where it is refused
+abbrev pub state_after : Result Session LineRefusal → State
+state_after (Ok session) = state session
+state_after (Err _) = idle
+
+-- what came of an opening
+abbrev pub outcome : Result Session LineRefusal → Outcome
+outcome (Ok _) = Ok tt
+outcome (Err refusal) = Err refusal
 
 -- how many messages wait
 abbrev pub waits : State → ℕ

@@ -2,7 +2,7 @@
 ghost use Rattle.run.specs.Numbers.{gathered, numbers};
 ghost use Rattle.std.specs.Prelude.{IfOk};
 ghost use Rattle.schedule.specs.Calls.{Consults, Crashes, Delivers, Opens, Passes, Proposes, Starts};
-ghost use Rattle.schedule.specs.States.{gathering_on, held, running_on, state};
+ghost use Rattle.schedule.specs.States.{gathering_on, held, outcome, running_on, state, state_after};
 
 use super::desk::Desk;
 use super::refusal::LineRefusal;
@@ -17,21 +17,22 @@ pub(super) fn open(
     heap: Global,
     n: u64,
     patience: u64,
-) -> Result<(Session, Result<(), LineRefusal>), AllocError>
-    ensures { IfOk result (λ p. Opens n patience p.1 (state p.0)) }
+) -> Result<Result<Session, LineRefusal>, AllocError>
+    ensures { IfOk result (λ r. Opens n patience (outcome r) (state_after r)) }
 {
     let Ok(detector) = PatientDetector::new(n as usize, patience as usize) else {
-        return Ok((Session::Idle, Err(LineRefusal::Run(Refusal::Stations))));
+        return Ok(Err(LineRefusal::Run(Refusal::Stations)));
     };
     let mut desk = Desk::new(heap, n as usize, detector)?;
+    // No `map` and `map_err`: the desk then goes into a closure, and the check found no proof of `returns`.
     match Gathering::open(
         n as usize,
         &mut desk.stations,
         &mut desk.bytes,
         &desk.detector,
     ) {
-        Ok(gathering) => Ok((Session::Gathering(gathering, desk), Ok(()))),
-        Err(refusal) => Ok((Session::Idle, Err(LineRefusal::Run(refusal)))),
+        Ok(gathering) => Ok(Ok(Session::Gathering(gathering, desk))),
+        Err(refusal) => Ok(Err(LineRefusal::Run(refusal))),
     }
 }
 
@@ -39,6 +40,7 @@ pub(super) fn open(
 pub(super) fn start(gathering: Gathering, mut desk: Desk) -> (Session, Result<(), LineRefusal>)
     ensures { Starts (gathered gathering) (held desk) result.1 (state result.0) }
 {
+    // No `map` and `map_err`: either case takes the desk, and only one closure could.
     match gathering.start(&mut desk.stations, &mut desk.bytes, &desk.detector) {
         Ok(running) => (Session::Running(running, desk), Ok(())),
         Err((gathering, refusal)) => (

@@ -10,7 +10,7 @@ use value::Number;
 // 600 places, each of 24 bytes and those of a number.
 const TABLE: usize = 600 * 32;
 
-// The tables and the failure detector of a run.
+// The tables and the failure detector of a run. The tables are on the heap; a program of one size has them in arrays.
 #[derive(Drop)]
 pub struct Desk {
     pub stations: Vec<Station<Number>>,

@@ -4,6 +4,7 @@ ghost use Rattle.schedule.specs.Refusals.{line_number, of_run};
 
 use run::Refusal;
 
+// Not an Option: number 15 is this crate's own, and None would not say why.
 #[derive(Clone, Copy, Debug, PartialEq, Eq)]
 pub enum LineRefusal {
     // the run refused the call

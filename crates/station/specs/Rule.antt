@@ -69,14 +69,17 @@ module _ {V : Type 0} where
   abbrev pub enough : Station V → ℕ → Bool
   enough s k = nat_lt s.n (2 * k)
 
+  -- a step that gives out nothing
   abbrev pub quiet : Outcome → Step V
   quiet o = record { sent = None; outcome = o }
 
-  abbrev pub sending : ℕ → ℕ → Content V → Outcome → Step V
-  sending r t m o = record { sent = Some (record { round = r; stamp = t; content = m }); outcome = o }
-
+  -- a step that gives out what there is to give
   abbrev pub step_maybe_sending : ℕ → ℕ → Option (Content V) → Outcome → Step V
   step_maybe_sending r t m o = record { sent = option_map (λ c. record { round = r; stamp = t; content = c }) m; outcome = o }
+
+  -- a step that gives out this
+  abbrev pub sending : ℕ → ℕ → Content V → Outcome → Step V
+  sending r t m o = step_maybe_sending r t (Some m) o
 
   -- records that differ in one respect
   abbrev pub at_stamp : Station V → ℕ → Station V

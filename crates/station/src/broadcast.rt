@@ -1,6 +1,7 @@
 // What a station sends to every station, and what reaches it again from another.
 
-// What a message says, by its kind.
+// What a message says, by its kind. The cases are those of a message, but an origin is the number of a station
+// and no unit of bytes, since this crate knows no message.
 #[derive(Clone, Copy, Debug, PartialEq, Eq)]
 pub enum Content<V> {
     First { origin: u8, value: V },

@@ -8,7 +8,7 @@ use super::turn::Turn;
 use std::cmp::Ordering;
 use value::Value;
 
-// The last round, and the highest stamp, that a record may have.
+// The last round, and the highest stamp, that a record may have: those of a message, which this crate does not know.
 pub const MAX_ROUND: u16 = 60_000;
 
 pub const MAX_STAMP: u32 = 6_000_000;
@@ -38,7 +38,7 @@ pub enum Refused {
 
 impl<V: Value> Step<V> {
     // A step that gives out nothing.
-    pub(crate) fn quiet(outcome: Outcome) -> Step<V>
+    pub fn quiet(outcome: Outcome) -> Step<V>
         ensures { result ≡ quiet outcome }
     {
         Step {
@@ -89,7 +89,8 @@ impl<V: Value> Station<V> {
         }
     }
 
-    // Whether the record is one that a run of `n` stations can have left of station `number` before the start.
+    // Whether this can be the record of station `number` in a run of `n` stations that has not started: its
+    // counts, its round and its stamp are no higher than such a run lets them be.
     pub fn is_formed(&self, number: u8, n: u8) -> bool
         ensures { result ≡ formed n number self.now }
     {
@@ -105,7 +106,7 @@ impl<V: Value> Station<V> {
             && self.sent <= sendable
     }
 
-    // Whether the record is one that a run of `n` stations can have left of station `number`.
+    // The same for a run that has started: there the record has an estimate too.
     #[tactic(auto, using(crate::proofs::Sound::sound_true))]
     pub fn fits(&self, number: u8, n: u8) -> bool
         requires { (3 ≤ n) × ((n ≤ 32) × (number < n)) }

@@ -23,7 +23,7 @@ fn count_pairs<D: FailureDetector>(detector: &D) -> usize {
 }
 
 // Prints a row for each station, with a mark for each other one that it suspects.
-// Stations have numbers and no list, so these are ranges of numbers.
+// Stations have numbers and no list, so these are ranges of numbers; each row is printed as it is made.
 fn show_pairs<D: FailureDetector>(
     rt: &(impl Print + AllocGlobal),
     detector: &D,
@@ -37,7 +37,7 @@ fn show_pairs<D: FailureDetector>(
     Ok(())
 }
 
-// The number of a refusal, or 0.
+// The number of a refusal, or 0. No `From`: neither a Result nor a number is a type of this program.
 fn number_of(answer: Result<(), DetectorError>) -> u8 {
     answer.err().map_or(0, u8::from)
 }

@@ -21,7 +21,8 @@ impl Pair {
         replay(&mut self.exact, &[event]);
     }
 
-    // Makes the call of a command. A refusal leaves both detectors as they were.
+    // Makes the call of a command, which is data of a line: one match tells the calls apart. A refusal leaves
+    // both detectors as they were.
     pub fn perform(&mut self, command: Command) -> Result<(), DetectorError> {
         match command {
             Command::New { stations, patience } => *self = Pair::new(stations, patience)?,

@@ -1,9 +1,10 @@
 -- A table of bytes, cut into places of one size.
-use Rattle.std.specs.Prelude.{ℕ, zero, suc, ◌+◌, ◌*◌, List, [], ◌++◌, length, take, drop, replicate}
+use Rattle.std.specs.Prelude.{ℕ, zero, suc, ◌*◌, List, [], ◌++◌, take, drop, replicate}
+use Rattle.message.specs.Format as message
 
 -- the table with `ys` written from `at` on
 abbrev pub put : List ℕ → ℕ → List ℕ → List ℕ
-put xs at ys = take at xs ++ (ys ++ drop (at + length ys) xs)
+put xs at ys = message.put at ys xs
 
 -- `size` bytes from `at` on
 abbrev pub place : List ℕ → ℕ → ℕ → List ℕ

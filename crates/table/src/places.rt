@@ -4,7 +4,7 @@ ghost use Rattle.message.specs.Format.{all_within};
 ghost use Rattle.table.specs.Messages.{addressed, appended, size, understood, written};
 ghost use Rattle.table.specs.Places.{place, put};
 
-use message::{Head, Message, MessageFault, Reason};
+use message::{Head, Message, MessageFault, ORIGIN_END, Reason};
 use station::{Broadcast, Content};
 use value::Value;
 
@@ -12,7 +12,7 @@ use value::Value;
 pub fn place_size<V: Value>() -> usize
     ensures { result ≡ size V.Value }
 {
-    24 + V::WIDTH
+    ORIGIN_END + V::WIDTH
 }
 
 // The message at place `k`.
@@ -25,10 +25,12 @@ pub fn read_place<V: Value>(bytes: &[u8], k: usize) -> Result<Message<V>, Messag
     let at = k * size;
     let part = &bytes[at..at + size];
     let m = message::read::<V>(part)?;
+    // what was read opens, so this fault is never given
     message::open::<V>(m).map_err(|fault| Reason::Value(fault).at(0))
 }
 
-// The message of a broadcast from one station to another.
+// The message of a broadcast from one station to another, by case: a station knows no message, and no units, and
+// First and Second are two documented kinds of one shape.
 fn address<V: Value>(b: &Broadcast<V>, sender: u8, receiver: u8) -> Message<V>
     ensures { result ≡ addressed sender b.now receiver }
 {

@@ -4,8 +4,8 @@ use Rattle.std.proofs.lemmas.Bool.Decides.{nat_tests}
 use Rattle.run.proofs.Members.{fitting_from_test}
 use Rattle.run.proofs.gathering.Gathering.over.Goals as goal
 
-pub returns-then-n-lt3-clause-answer : goal.returns-then-n-lt3-clause-answer
-returns-then-n-lt3-clause-answer g c = grind (arith, nat_tests)
+pub returns-then-n-lt-FEWEST-clause-answer : goal.returns-then-n-lt-FEWEST-clause-answer
+returns-then-n-lt-FEWEST-clause-answer g c = grind (arith, nat_tests)
 
 pub returns-then-places-n-clause-answer : goal.returns-then-places-n-clause-answer
 returns-then-places-n-clause-answer g c = grind (arith, nat_tests)
