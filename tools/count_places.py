@@ -25,7 +25,7 @@ PATTERNS = [
     ("4a", "numbers of enums, by a method or function", r"\bfn (number|cause|number_of|kind_of|refusal_in)\b"),
     ("4b", "equality, by a method or function", r"\bfn same\b.*\{?$"),
     ("4c", "printing, by a method or function", r"\bfn show\w*\b"),
-    ("6a", "arrays with a place for the most that may be", r"\[[\w:<>]+; (32|LONGEST)\]"),
+    ("6a", "arrays with a place for the most that may be", r"\[[\w:<>]+; (32|LONGEST|MOST_STATIONS)\]"),
     ("7a", "enums of calls and what is made of them", r"\bmatch (event|call)\b"),
 ]
 
