@@ -13,10 +13,14 @@ fn digit(c: u8) -> Option<u8> {
 // The bytes that a text gives, two digits each. Blanks between them, and all other characters, are passed over,
 // as is a last digit that has no second one.
 pub(super) fn bytes_of(heap: Global, text: &[u8]) -> Result<Vec<u8>, AllocError> {
-    let digits: Vec<u8> = text.iter().copied().filter_map(digit).collect(heap)?;
-    let (pairs, _) = digits.as_chunks::<2>();
-    pairs
-        .iter()
-        .map(|[high, low]| (high << 4) | low)
-        .collect(heap)
+    let mut bytes = Vec::new(heap);
+    // one digit is carried on, since those of a whole line would take twice the memory of the bytes that it gives
+    let mut high = None;
+    for low in text.iter().copied().filter_map(digit) {
+        match high.take() {
+            Some(first) => bytes.push((first << 4) | low)?,
+            None => high = Some(low),
+        }
+    }
+    Ok(bytes)
 }

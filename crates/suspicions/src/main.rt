@@ -5,11 +5,13 @@
 
 mod command;
 mod pair;
+mod row;
 
-use anyhow::Context;
 use command::Command;
 use detector::{DetectorError, FailureDetector};
 use pair::Pair;
+use row::Row;
+use std::io;
 
 // So many numbers are asked about, more than a detector has stations.
 const ASKED: usize = 40;
@@ -22,16 +24,13 @@ fn count_pairs<D: FailureDetector>(detector: &D) -> usize {
         .fold(0, usize::saturating_add)
 }
 
-// Prints a row for each station, with a mark for each other one that it suspects.
-// Stations have numbers and no list, so these are ranges of numbers; each row is printed as it is made.
-fn show_pairs<D: FailureDetector>(
-    rt: &(impl Print + AllocGlobal),
-    detector: &D,
-) -> anyhow::Result<()> {
-    for i in 0..detector.stations() {
-        let row: String = (0..detector.stations())
-            .map(|j| if detector.suspects(i, j) { 'x' } else { '.' })
-            .collect(rt.alloc())?;
+// Prints a row for each station. Stations have numbers and no list, so this is a range of numbers.
+fn show_pairs<D: FailureDetector>(rt: &impl Print, detector: &D) -> io::Result<()> {
+    for suspecting in 0..detector.stations() {
+        let row = Row {
+            detector,
+            suspecting,
+        };
         println!(rt; "{row}")?;
     }
     Ok(())
@@ -45,7 +44,7 @@ fn number_of(answer: Result<(), DetectorError>) -> u8 {
 fn run(rt: &(impl Input + Print + AllocGlobal)) -> anyhow::Result<()> {
     let mut pair = Pair::new(3, 0)?;
     for line in rt.lines(rt.alloc()) {
-        let line = line.context("reading standard input")?;
+        let line = line?;
         let command = Command::from(line.as_str());
         if command == Command::Show {
             show_pairs(rt, &pair.patient)?;
