@@ -1,10 +1,10 @@
 -- Where the first line ends.
-use Rattle.std.proofs.Common.{◌≡◌, ℕ, zero, suc, ◌+◌, ◌-◌, ◌<◌, ◌≤◌, Bool, true, false, cond, List, [], ◌∷◌, length, get_or, take, drop, Some, None, Option, Bor, sym, refl, ap, ◌∙◌, ⊎_elim, arith, MatchOption}
+use Rattle.std.proofs.Common.{◌≡◌, ℕ, zero, suc, ◌+◌, ◌-◌, ◌<◌, ◌≤◌, Bool, true, false, cond, List, [], ◌∷◌, length, get_or, take, drop, Some, None, Option, Bor, sym, refl, ap, ◌∙◌, ⊎_elim, arith, length-drop, MatchOption}
 use Rattle.std.specs.Iterator.{AlwaysYields}
 use Rattle.std.specs.List.{AllWithin, HoldsAt}
 use Rattle.std.specs.Slice.Iter.{windows_rest, windows_size, windows_steps}
 use Rattle.std.specs.declared.slice.Windows.{Windows}
-use Rattle.std.proofs.lemmas.Bool.{cond-true, cond-false, both_ways, and_right, cases_lt}
+use Rattle.std.proofs.lemmas.Bool.{cond-true, cond-false, cond_both, both_ways, and_right, cases_lt}
 use Rattle.std.proofs.lemmas.Iterator.{YieldsList}
 use Rattle.lines.specs.Lines.{at_end, first_line, lines, onto}
 
@@ -107,6 +107,14 @@ lines_step (c ∷ (d ∷ ds)) h =
     let more = first_line (d ∷ ds) in
     let P : Bool → Type 0 = λ b. cond b ([] ∷ lines ds) (onto c (lines (d ∷ ds))) ≡ (cond {A = Cut} b ([], ds) (c ∷ more.0, more.1)).0 ∷ lines (cond {A = Cut} b ([], ds) (c ∷ more.0, more.1)).1 in
     elim (at_end (c ∷ (d ∷ ds))) as P [ true ↦ refl | false ↦ ap (onto c) (lines_step (d ∷ ds) (omega arith)) ]
+
+-- what follows the first line is shorter than the text
+pub first_left : (s : List ℕ) → length (first_line s).1 ≤ length s - 1
+unfolding first_line
+first_left [] = omega arith
+first_left (c ∷ cs) =
+    cond_both {A = Cut} (at_end (c ∷ cs)) ([], drop 1 cs) (c ∷ (first_line cs).0, (first_line cs).1) (λ p. length p.1 ≤ length (c ∷ cs) - 1)
+    (λ e. omega (arith, length-drop 1 cs)) (λ e. omega (arith, first_left cs))
 
 -- a text that is not empty has a first line, and the lines of what follows it
 pub next_line : (s : List ℕ) (p : Cut) → 0 < length s → p ≡ first_line s → lines s ≡ p.0 ∷ lines p.1

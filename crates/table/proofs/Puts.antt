@@ -30,7 +30,7 @@ put_paste : (d : List ℕ) (a : ℕ) (s : List ℕ) → put d a s ≡ paste d a 
 put_paste d a s = sym (paste_all d a s (length s) refl)
 
 -- one write behind another
-put-put : (d : List ℕ) (a b : ℕ) (s t : List ℕ) → a ≤ length d → b ≡ a + length s → put (put d a s) b t ≡ put d a (s ++ t)
+pub put-put : (d : List ℕ) (a b : ℕ) (s t : List ℕ) → a ≤ length d → b ≡ a + length s → put (put d a s) b t ≡ put d a (s ++ t)
 put-put d a b s t h e =
     ap (λ k. put (put d a s) k t) e
     ∙ ap (λ xs. put xs (a + length s) t) (put_paste d a s)
@@ -39,11 +39,11 @@ put-put d a b s t h e =
     ∙ paste_all d a (s ++ t) (length s + length t) (sym (length-append s t))
     ∙ ap (λ k. take a d ++ ((s ++ t) ++ drop (a + k) d)) (sym (length-append s t))
 
-length-messages : (f : ℕ → List ℕ) (size n : ℕ) → ((i : ℕ) → length (f i) ≡ size) → length (messages f n) ≡ n * size
+pub length-messages : (f : ℕ → List ℕ) (size n : ℕ) → ((i : ℕ) → length (f i) ≡ size) → length (messages f n) ≡ n * size
 length-messages f size zero e = omega arith
 length-messages f size (suc n) e = simp length-append (omega (arith, length-messages f size n e, e n))
 
-messages_more : (f : ℕ → List ℕ) (n : ℕ) → messages f (n + 1) ≡ messages f n ++ f n
+pub messages_more : (f : ℕ → List ℕ) (n : ℕ) → messages f (n + 1) ≡ messages f n ++ f n
 messages_more f n = ap (messages f) (add-one n)
 
 -- one message more behind the j that stand from place w on

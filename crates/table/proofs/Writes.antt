@@ -11,7 +11,7 @@ use Rattle.message.proofs.RoundTrips.{length-encoded}
 use Rattle.table.specs.Messages.{size, written}
 
 module _ {V : Type 0} (of : Ghosts V) where
-  size-within : (m : Message V) → size_of of m ≤ size of
+  pub size-within : (m : Message V) → size_of of m ≤ size of
   size-within (message.First h o v) = omega arith
   size-within (message.Second h o v) = omega arith
   size-within (message.Suspicion h) = omega arith

@@ -13,7 +13,7 @@ use Rattle.value.specs.Units.{unit-word, unit_at_lt}
 abbrev make : (v : ℕ) → v < 18446744073709551616 → Number
 make v p = record { value = v; fits = p }
 
-number_same : (m n : Number) → m.value ≡ n.value → m ≡ n
+pub number_same : (m n : Number) → m.value ≡ n.value → m ≡ n
 number_same m n e =
     let P : ℕ → Type 0 = λ w. (q : w < 18446744073709551616) → m ≡ make w q in
     subst P e (λ q. ap (make m.value) (le_prop m.fits q)) n.fits

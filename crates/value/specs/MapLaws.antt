@@ -44,6 +44,10 @@ map_of_units m z v g a b c =
 pub map_parsed : (s : List ℕ) (m : ℕ) (z : ℤ) (v : ℕ) → length s ≡ 12 → m ≡ unit_at s 0 → z ≡ to_z w32 (unit_at s 4) → v ≡ unit_at s 8 → map_parse s ≡ map_units m z v
 map_parsed s m z v l a b c = rw (eq-eqb _ _ l, a, b, c)
 
+-- twelve bytes that are the units of a graded map
+pub map_decoded : (s : List ℕ) (g : GradedMap) → length s ≡ 12 → unit_at s 0 ≡ g.map → to_z w32 (unit_at s 4) ≡ g.grade → unit_at s 8 ≡ cond g.verso 1 0 → map_parse s ≡ Ok g
+map_decoded s g l a b c = map_parsed s _ _ _ l refl refl refl ∙ map_of_units _ _ _ g a b c
+
 pub map_reads : (g : GradedMap) → map_parse (map_code g) ≡ Ok g
 map_reads g =
     let z : FitsSigned w32 g.grade = omega (arith, ints) in
