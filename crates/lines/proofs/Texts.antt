@@ -108,7 +108,7 @@ lines_step (c ∷ (d ∷ ds)) h =
     let P : Bool → Type 0 = λ b. cond b ([] ∷ lines ds) (onto c (lines (d ∷ ds))) ≡ (cond {A = Cut} b ([], ds) (c ∷ more.0, more.1)).0 ∷ lines (cond {A = Cut} b ([], ds) (c ∷ more.0, more.1)).1 in
     elim (at_end (c ∷ (d ∷ ds))) as P [ true ↦ refl | false ↦ ap (onto c) (lines_step (d ∷ ds) (omega arith)) ]
 
--- what follows the first line is shorter than the text
+-- what follows the first line is shorter than a text that is not empty
 pub first_left : (s : List ℕ) → length (first_line s).1 ≤ length s - 1
 unfolding first_line
 first_left [] = omega arith
